@@ -1,0 +1,63 @@
+-- What the crates above use of signed numbers: what the machine reads back, what a comparison with zero tells of the sign and
+-- the size, and how large a number between two limits is.
+-- Assumes nothing.
+use mathlib.Core.Path.{_≡_, refl, ap, ap₂, subst, _∙_}
+use mathlib.Core.Bool.{Bool, true, false}
+use Prim.Native.Nat.{ℕ, suc, _<_, _^_, zero-le}
+use native.Mathlib.Nat.{zero-add, not-suc-le-zero}
+use native.Mathlib.Omega.{arith}
+use borrow.Author.Tests.{ltb-true, lt-ltb, le-ltb}
+use lib.Dec.{T}
+use lib.IntN.{ℤ, pos, negsuc, natAbs, _-ℤ_}
+use lib.Signed.{ltZ, leZ, mag, natAbs-le}
+use mir.Syntax.{w32, w64}
+use mir.Val.{SFits, toZ, ofZ}
+use mir.Facts.{toZ-ofZ, sfits-widen}
+use Rattle.sign.specs.Sign.{signed, made}
+
+-- a test cannot have both answers
+pub contrary : {X : Type 0} → true ≡ false → X
+contrary e = absurd (subst T e tt)
+
+-- what the machine reads back of a number that fits an i32 is that number
+pub same : (v : ℤ) → mag v < 2 ^ 31 → toZ w32 (ofZ w32 v) ≡ v
+same v h = toZ-ofZ {w = w32} (record { sfits = h })
+
+-- what `at_most`, `less` and `size` ensure at a call, of the numbers that its arguments stand for
+module _ (a b : ℤ) (fa : mag a < 2 ^ 31) (fb : mag b < 2 ^ 31) {r : Bool} where
+  pub at-most-of : r ≡ leZ (toZ w32 (ofZ w32 a)) (toZ w32 (ofZ w32 b)) → r ≡ leZ a b
+  at-most-of e = e ∙ ap₂ leZ (same a fa) (same b fb)
+
+  pub less-of : r ≡ ltZ (toZ w32 (ofZ w32 a)) (toZ w32 (ofZ w32 b)) → r ≡ ltZ a b
+  less-of e = e ∙ ap₂ ltZ (same a fa) (same b fb)
+
+pub size-of : (v : ℤ) → mag v < 2 ^ 31 → {n : ℕ} → n ≡ natAbs (toZ w32 (ofZ w32 v)) → n ≡ natAbs v
+size-of v h e = e ∙ ap natAbs (same v h)
+
+-- what `make` ensures, of a size that an i32 has
+pub make-of : (below : Bool) (n : ℕ) (r : ℤ) → n < 2 ^ 31 → r ≡ made below n → r ≡ signed below n
+make-of below n r h e = e ∙ rw (lt-ltb n (2 ^ 31) h)
+
+-- below zero, zero minus the number is its size; else the number is its size
+pub below-zero : (v : ℤ) → ltZ v (pos 0) ≡ true → pos 0 -ℤ v ≡ pos (natAbs v)
+below-zero (pos n) t = let h = ltb-true n 0 t in absurd (not-suc-le-zero h)
+below-zero (negsuc n) t = ap pos (zero-add (suc n))
+
+pub not-below-zero : (v : ℤ) → ltZ v (pos 0) ≡ false → v ≡ pos (natAbs v)
+not-below-zero (pos n) t = refl
+not-below-zero (negsuc n) t = contrary t
+
+-- a number is its sign and its size
+pub by-sign : (v : ℤ) → v ≡ signed (ltZ v (pos 0)) (natAbs v)
+by-sign (pos n) = rw (le-ltb n 0 zero-le)
+by-sign (negsuc n) = refl
+
+module _ (v : ℤ) (f : SFits w32 v) where
+  pub read-back : toZ w32 (ofZ w32 v) ≡ v
+  read-back = toZ-ofZ f
+
+  pub size-small : natAbs v < 2 ^ 32
+  size-small = let h = natAbs-le v (f .sfits) in omega arith
+
+  pub widened : toZ w64 (ofZ w64 (toZ w32 (ofZ w32 v))) ≡ v
+  widened = ap (λ (z : ℤ). toZ w64 (ofZ w64 z)) read-back ∙ toZ-ofZ {w = w64} (sfits-widen tt f)
