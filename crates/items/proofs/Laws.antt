@@ -1,0 +1,209 @@
+-- The laws that the crates above use: a good table stays good, what a store leaves alone, where a search ends, and when an
+-- alarm state is 1.
+-- Assumes nothing.
+use mathlib.Core.Path.{_≡_, refl, sym, ap, _∙_}
+use mathlib.Core.Bool.{Bool, true, false, cond, _&&_}
+use mathlib.Core.List.{List, [], _∷_}
+use Prim.Native.Nat.{ℕ, zero, suc, _+_, _-_, _<_, _≤_}
+use native.Mathlib.Nat.{not-suc-le-zero, le-of-suc-le-suc}
+use native.Mathlib.Omega.{arith}
+use borrow.Author.Tests.{eq-eqb, ne-eqb, eqb-true, leb-true, le-leb, lt-leb}
+use lib.Dec.{eqb, leb}
+use lib.IntN.{ℤ, pos, negsuc}
+use lib.ListN.{getD, set, length, length-set}
+use lib.Seq.{getD-set-other}
+use lib.Signed.{leZ}
+use Rattle.sign.proofs.Laws.{contrary}
+use Rattle.items.specs.declared.Item.{Item}
+use Rattle.items.specs.declared.Found.{Found}
+use Rattle.items.specs.declared.Found.the-variants.{At, Nothing}
+use Rattle.items.specs.ItemList.{items, itemList, noItem, itemAt, firstFrom, named, registered, found, foundByRegister}
+use Rattle.items.specs.Table.{none, fromLowToHigh, inRange, allInRange, tableFault, goodTable, startValues, entry, M1, AA, AB, A1, A2, alarm, answered, stored, noSuchItem, valueOutside, putNumber, putTable}
+use Rattle.items.specs.Promise.{Lent}
+use Rattle.items.proofs.Lists.{both}
+
+-- ---- a good table
+
+-- what a good table is: twelve entries, each in its range
+good-parts : (t : List ℤ) → goodTable t ≡ true → (length t ≡ items) × (allInRange itemList t ≡ true)
+unfolding tableFault
+good-parts t g = by (eqb (length t) items) (allInRange itemList t) refl refl (eqb-true _ _ g)
+  where
+    by : (a b : Bool) → eqb (length t) items ≡ a → allInRange itemList t ≡ b → _≡_ {A = ℕ} (cond a (cond b 0 2) 1) 0
+        → (length t ≡ items) × (allInRange itemList t ≡ true)
+    by true true p q e = (eqb-true _ _ p, q)
+    by true false p q e = absurd (let z : _≡_ {A = ℕ} 2 0 = e in omega arith)
+    by false b p q e = absurd (let z : _≡_ {A = ℕ} 1 0 = e in omega arith)
+
+pub good-length : (t : List ℤ) → goodTable t ≡ true → length t ≡ items
+good-length t g = good-parts t g .0
+
+good-from : (t : List ℤ) → length t ≡ items → allInRange itemList t ≡ true → goodTable t ≡ true
+unfolding tableFault
+good-from t l a = simp (eq-eqb _ _ l, a)
+
+all-at : (xs : List Item) (t : List ℤ) (i : ℕ) → allInRange xs t ≡ true → i < length xs → i < length t
+    → fromLowToHigh (getD xs i noItem) (entry t i) ≡ true
+all-at [] t i a h k = absurd (not-suc-le-zero h)
+all-at (x ∷ xs) [] i a h k = absurd (not-suc-le-zero k)
+all-at (x ∷ xs) (v ∷ t) zero a h k = both (fromLowToHigh x v) (allInRange xs t) a .0
+all-at (x ∷ xs) (v ∷ t) (suc i) a h k =
+    all-at xs t i (both (fromLowToHigh x v) (allInRange xs t) a .1) (le-of-suc-le-suc h) (le-of-suc-le-suc k)
+
+-- each entry of a good table is in its range
+pub good-entry : (t : List ℤ) (i : ℕ) → goodTable t ≡ true → i < items → inRange i (entry t i) ≡ true
+unfolding inRange
+good-entry t i g h = let p = good-parts t g in all-at itemList t i (p .1) h (omega (arith, p .0))
+
+-- the start table is good
+pub good-start : goodTable startValues ≡ true
+unfolding startValues tableFault
+good-start = refl
+
+-- ---- storing
+
+all-set : (xs : List Item) (t : List ℤ) (i : ℕ) (v : ℤ) → allInRange xs t ≡ true → fromLowToHigh (getD xs i noItem) v ≡ true
+    → allInRange xs (set t i v) ≡ true
+all-set [] t i v a r = refl
+all-set (x ∷ xs) [] i v a r = refl
+all-set (x ∷ xs) (w ∷ t) zero v a r = rw r (both (fromLowToHigh x w) (allInRange xs t) a .1)
+all-set (x ∷ xs) (w ∷ t) (suc i) v a r =
+    let p = both (fromLowToHigh x w) (allInRange xs t) a in
+    rw (p .0) (all-set xs t i v (p .1) r)
+
+pub stored-length : (t : List ℤ) (i : ℕ) (v : ℤ) → length (stored t i v) ≡ length t
+unfolding stored
+stored-length t i v = length-set t i v
+
+-- a good table stays good after a store in range
+pub good-stored : (t : List ℤ) (i : ℕ) (v : ℤ) → goodTable t ≡ true → inRange i v ≡ true → goodTable (stored t i v) ≡ true
+unfolding stored inRange
+good-stored t i v g r =
+    let p = good-parts t g in
+    good-from (set t i v) (length-set t i v ∙ p .0) (all-set itemList t i v (p .1) r)
+
+-- a store leaves every other entry
+pub stored-other : (t : List ℤ) (i j : ℕ) (v : ℤ) → (j ≡ i → ⊥) → entry (stored t i v) j ≡ entry t j
+unfolding stored
+stored-other t i j v h = getD-set-other t i j v (pos 0) h
+
+-- so a store to a writable item leaves the read-only ones
+pub stored-read-only : (t : List ℤ) (i j : ℕ) (v : ℤ) → itemAt i .writable ≡ true → itemAt j .writable ≡ false
+    → entry (stored t i v) j ≡ entry t j
+stored-read-only t i j v w r =
+    stored-other t i j v (λ e. contrary (sym w ∙ ap (λ (k : ℕ). itemAt k .writable) (sym e) ∙ r))
+
+-- only zero lies between zero and zero
+zero-only : (v : ℤ) → (leZ (pos 0) v && leZ v (pos 0)) ≡ true → v ≡ pos 0
+zero-only (pos n) e = let h : n ≤ 0 = leb-true n 0 (both (leb 0 n) (leb n 0) e .1) in ap pos (omega arith)
+zero-only (negsuc n) e = contrary (sym e)
+
+-- entries 2 and 3 of a good table are 0
+pub alarm-entry-zero : (t : List ℤ) → goodTable t ≡ true → (entry t AA ≡ pos 0) × (entry t AB ≡ pos 0)
+unfolding inRange
+alarm-entry-zero t g = (zero-only _ (good-entry t AA g (omega arith)), zero-only _ (good-entry t AB g (omega arith)))
+
+-- ---- the firmware's put
+
+module _ (t : List ℤ) (n : ℕ) (v : ℤ) where
+  -- the table's fault; no such item; a value outside; none
+  pub put-fault : {f : ℕ} → f ≡ tableFault t → (f ≡ none → ⊥) → putNumber t n v ≡ f
+  unfolding putNumber
+  put-fault e h = simp (ne-eqb (tableFault t) none (λ z. h (e ∙ z))) (sym e)
+
+  put-checked : {f : ℕ} → f ≡ tableFault t → f ≡ none
+      → putNumber t n v ≡ cond (leb 1 n && leb n items) (cond (inRange (n - 1) v) none valueOutside) noSuchItem
+  unfolding putNumber
+  put-checked e z = simp (eq-eqb (tableFault t) none (sym e ∙ z))
+
+  pub put-below : {f : ℕ} → f ≡ tableFault t → f ≡ none → n < 1 → putNumber t n v ≡ noSuchItem
+  put-below e z h = put-checked e z ∙ simp (lt-leb 1 n h)
+
+  pub put-above : {f : ℕ} → f ≡ tableFault t → f ≡ none → items < n → putNumber t n v ≡ noSuchItem
+  put-above e z h = put-checked e z ∙ simp (le-leb 1 n (omega arith), lt-leb n items h)
+
+  pub put-ranged : {f : ℕ} {b : Bool} → f ≡ tableFault t → f ≡ none → 1 ≤ n → n ≤ items → b ≡ inRange (n - 1) v
+      → putNumber t n v ≡ cond b none valueOutside
+  put-ranged e z l h r = put-checked e z ∙ simp (le-leb 1 n l, le-leb n items h, ← r)
+
+  -- a refused put leaves the table as it came; an accepted one stores
+  pub put-refused : {k : ℕ} → putNumber t n v ≡ k → (k ≡ none → ⊥) → Lent (putNumber t n v) (putTable t n v) k t
+  unfolding putTable
+  put-refused e h = record { given = sym e; left = simp (ne-eqb (putNumber t n v) none (λ z. h (sym e ∙ z))) }
+
+  pub put-accepted : putNumber t n v ≡ none → Lent (putNumber t n v) (putTable t n v) none (stored t (n - 1) v)
+  unfolding putTable
+  put-accepted e = record { given = sym e; left = simp (eq-eqb (putNumber t n v) none e) }
+
+-- a good table stays good after put
+pub good-put : (t : List ℤ) (n : ℕ) (v : ℤ) → goodTable t ≡ true → goodTable (putTable t n v) ≡ true
+unfolding putTable putNumber
+good-put t n v g = rw g (by (leb 1 n && leb n items) (inRange (n - 1) v) refl)
+  where
+    by : (a b : Bool) → inRange (n - 1) v ≡ b
+        → goodTable (cond (eqb (cond a (cond b none valueOutside) noSuchItem) none) (stored t (n - 1) v) t) ≡ true
+    by true true r = good-stored t (n - 1) v g r
+    by true false r = g
+    by false b r = g
+
+-- ---- looking up
+
+-- a search ends at a place of the list whose line passes
+first-passes : (p : Item → Bool) (xs : List Item) (i j : ℕ) → firstFrom i p xs ≡ At j
+    → (i ≤ j) × (j < i + length xs) × (p (getD xs (j - i) noItem) ≡ true)
+first-passes p [] i j e = absurd (let z : _≡_ {A = ℕ} 0 1 = cc in omega arith)
+first-passes p (x ∷ xs) i j e = by (first-passes p xs (suc i) j) (p x) refl e
+  where
+    here : i ≡ j → p x ≡ true → p (getD (x ∷ xs) (j - i) noItem) ≡ true
+    here q t = let z : j - i ≡ 0 = omega arith in rw z t
+
+    there : suc i ≤ j → p (getD xs (j - suc i) noItem) ≡ true → p (getD (x ∷ xs) (j - i) noItem) ≡ true
+    there h t = let z : j - i ≡ suc (j - suc i) = omega arith in rw z t
+
+    by : (firstFrom (suc i) p xs ≡ At j → (suc i ≤ j) × (j < suc i + length xs) × (p (getD xs (j - suc i) noItem) ≡ true))
+        → (t : Bool) → p x ≡ t → cond t (At i) (firstFrom (suc i) p xs) ≡ At j
+        → (i ≤ j) × (j < i + length (x ∷ xs)) × (p (getD (x ∷ xs) (j - i) noItem) ≡ true)
+    by rest true t q = let z : i ≡ j = cc in (omega arith, omega arith, here z t)
+    by rest false t q = let r = rest q in (omega (arith, r .0), omega (arith, r .1), there (r .0) (r .2))
+
+list-passes : (p : Item → Bool) (j : ℕ) → firstFrom 0 p itemList ≡ At j → (j < items) × (p (itemAt j) ≡ true)
+list-passes p j e =
+    let r = first-passes p itemList 0 j e in
+    let z : j - 0 ≡ j = omega arith in
+    (r .1, sym (ap (λ (k : ℕ). p (itemAt k)) z) ∙ r .2)
+
+pub found-place : (a b j : ℕ) → found a b ≡ At j → (j < items) × (named a b (itemAt j) ≡ true)
+unfolding found
+found-place a b j e = list-passes (named a b) j e
+
+pub register-place : (r j : ℕ) → foundByRegister r ≡ At j → (j < items) × (itemAt j .register ≡ r)
+unfolding foundByRegister
+register-place r j e = let f = list-passes (registered r) j e in (f .0, eqb-true (itemAt j .register) r (f .1))
+
+-- ---- the alarm states
+
+-- an alarm's state is 1 exactly when M1 is at least the alarm's value
+pub alarm-on : (t : List ℤ) (limit : ℕ) → leZ (entry t limit) (entry t M1) ≡ true → alarm t limit ≡ pos 1
+unfolding alarm
+alarm-on t limit h = rw h
+
+pub alarm-only : (t : List ℤ) (limit : ℕ) → alarm t limit ≡ pos 1 → leZ (entry t limit) (entry t M1) ≡ true
+unfolding alarm
+alarm-only t limit = by (leZ (entry t limit) (entry t M1))
+  where
+    by : (b : Bool) → cond b (pos 1) (pos 0) ≡ pos 1 → b ≡ true
+    by true e = refl
+    by false e = absurd (let z : _≡_ {A = ℕ} 0 1 = cc in omega arith)
+
+-- AA goes by A1, AB by A2, and any other answer is the entry
+pub answered-AA : (t : List ℤ) → answered t AA ≡ alarm t A1
+unfolding answered
+answered-AA t = refl
+
+pub answered-AB : (t : List ℤ) → answered t AB ≡ alarm t A2
+unfolding answered
+answered-AB t = refl
+
+pub answered-entry : (t : List ℤ) (i : ℕ) → (i ≡ AA → ⊥) → (i ≡ AB → ⊥) → answered t i ≡ entry t i
+unfolding answered
+answered-entry t i a b = simp (ne-eqb i AA a, ne-eqb i AB b)

@@ -1,0 +1,4 @@
+pub mod Lists
+pub mod Lookup
+pub mod Laws
+pub mod Single

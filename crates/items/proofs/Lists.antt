@@ -1,0 +1,62 @@
+-- Laws on lists and tests that the proofs of this crate share: reading at a place, a table by what is left of it, and a test
+-- at each number below a bound.
+-- Assumes nothing.
+use mathlib.Core.Path.{_≡_, refl, sym, ap, _∙_}
+use mathlib.Core.Bool.{Bool, true, false, cond, _&&_}
+use mathlib.Core.List.{List, [], _∷_, _++_, append-nil}
+use Prim.Native.Nat.{ℕ, zero, suc, _+_, _<_, _≤_}
+use native.Mathlib.Nat.{not-suc-le-zero, le-of-suc-le-suc}
+use native.Mathlib.Numerals.{add-one}
+use native.Mathlib.Omega.{arith}
+use borrow.Author.Tests.{eqb-true, eqb-false}
+use lib.Dec.{eqb}
+use lib.IntN.{ℤ, pos}
+use lib.ListN.{length, getD, set, drop, drop-of-length-le}
+use lib.Seq.{drop-cons, sets, sets-eq}
+use Rattle.sign.proofs.Laws.{contrary}
+use Rattle.items.specs.declared.Item.{Item}
+use Rattle.items.specs.declared.Found.the-variants.{At}
+use Rattle.items.specs.ItemList.{noItem, firstFrom}
+use Rattle.items.specs.Table.{fromLowToHigh, allInRange, entry}
+
+-- both tests held
+pub both : (a b : Bool) → (a && b) ≡ true → (a ≡ true) × (b ≡ true)
+both true b e = (refl, e)
+both false b e = contrary (sym e)
+
+-- what is read at a place inside a list does not depend on what stands past its end
+pub read-inside : {A : Type 0} (l : List A) (i : ℕ) (d e : A) → i < length l → getD l i d ≡ getD l i e
+read-inside [] i d e h = absurd (not-suc-le-zero h)
+read-inside (x ∷ xs) zero d e h = refl
+read-inside (x ∷ xs) (suc i) d e h = read-inside xs i d e (le-of-suc-le-suc h)
+
+-- a test passes at each number below n
+abbrev pub passes : (ℕ → Bool) → ℕ → Bool
+passes p zero = true
+passes p (suc n) = p n && passes p n
+
+pub passes-at : (p : ℕ → Bool) (n k : ℕ) → passes p n ≡ true → k < n → p k ≡ true
+passes-at p zero k e h = absurd (not-suc-le-zero h)
+passes-at p (suc n) k e h = by (λ l. passes-at p n k (both (p n) (passes p n) e .1) l) (eqb k n) refl
+  where
+    by : (k < n → p k ≡ true) → (t : Bool) → eqb k n ≡ t → p k ≡ true
+    by before true t = ap p (eqb-true k n t) ∙ both (p n) (passes p n) e .0
+    by before false t = let other : k ≡ n → ⊥ = eqb-false k n t in before (omega arith)
+
+-- a search, and a table's check, by the lines that are left
+pub search-turn : (p : Item → Bool) (l : List Item) (i : ℕ) → i < length l
+    → firstFrom i p (drop i l) ≡ cond (p (getD l i noItem)) (At i) (firstFrom (i + 1) p (drop (i + 1) l))
+search-turn p l i h = rw (add-one, drop-cons l i noItem)
+
+pub check-turn : (l : List Item) (t : List ℤ) (i : ℕ) → i < length l → i < length t
+    → allInRange (drop i l) (drop i t) ≡ (fromLowToHigh (getD l i noItem) (entry t i) && allInRange (drop (i + 1) l) (drop (i + 1) t))
+check-turn l t i h k = rw (add-one, drop-cons l i noItem, drop-cons t i (pos 0))
+
+-- storing a run of values, by those that are left
+pub store-turn : (t vs : List ℤ) (i : ℕ) → i < length vs → sets t i (drop i vs) ≡ sets (set t i (entry vs i)) (i + 1) (drop (i + 1) vs)
+store-turn t vs i h = rw (add-one, drop-cons vs i (pos 0))
+
+-- a run that is as long as the table replaces it
+pub store-all : (t vs : List ℤ) → length t ≡ length vs → sets t 0 vs ≡ vs
+store-all t vs e =
+    sets-eq vs t 0 (omega arith) ∙ ap (λ (r : List ℤ). vs ++ r) (drop-of-length-le t {i = 0 + length vs} (omega arith)) ∙ append-nil vs

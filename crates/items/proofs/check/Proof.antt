@@ -1,0 +1,98 @@
+-- `items::check` meets its contract. The loop's invariant: the table is in range where what is left of it is. Assumes nothing.
+use borrow.Author.Needs.{needs}
+use borrow.Author.Tests.{eq-eqb, ne-eqb}
+use mathlib.Core.Path.{_≡_, refl, sym, ap, ap₂, _∙_}
+use mathlib.Core.Bool.{Bool, true, false, _&&_}
+use Prim.Native.Nat.{_+_, _-_, _≤_}
+use native.Mathlib.Omega.{arith}
+use lib.IntN.{pos}
+use lib.ListN.{getD, length, drop, drop-of-length-le}
+use mir.Syntax.{w32}
+use mir.Val.{toZ, ofZ}
+use Rattle.items.specs.ItemList.{items, itemList, noItem}
+use Rattle.items.specs.Table.{fromLowToHigh, allInRange, entry, tableFault}
+use Rattle.items.proofs.Lists.{read-inside, check-turn}
+use Rattle.items.proofs.check.Statement.{statement}
+use Rattle.items.proofs.check.Tie as tie
+
+abbrev Inv-loop : tie.InvT-loop
+Inv-loop table list i₀ i = (i ≤ items) × (allInRange (drop i itemList) (drop i table) ≡ allInRange itemList table)
+
+abbrev μ-loop : tie.MeasureT-loop
+μ-loop table list i₀ i = items - i
+
+returns : tie.Need-returns Inv-loop μ-loop
+unfolding tableFault
+returns c = simp (ne-eqb _ _ (c .if1 .taken))
+
+loop-holds : tie.Need-loop-holds Inv-loop μ-loop
+loop-holds c = (omega arith, refl)
+
+mul-value : tie.Need-mul-value Inv-loop μ-loop
+mul-value c = search needs
+
+shared-slice-copy-out-value : tie.Need-shared-slice-copy-out-value Inv-loop μ-loop
+shared-slice-copy-out-value c = search needs
+
+mul-from-low-to-high : tie.Need-mul-from-low-to-high Inv-loop μ-loop
+mul-from-low-to-high c = search needs
+
+array-copy-out-from-low-to-high : tie.Need-array-copy-out-from-low-to-high Inv-loop μ-loop
+array-copy-out-from-low-to-high c = search needs
+
+from-low-to-high-requires : tie.Need-from-low-to-high-requires Inv-loop μ-loop
+from-low-to-high-requires c κs = search needs
+
+-- a turn: the entry at i, and then those after it
+turn : (c : tie.After-from-low-to-high Inv-loop μ-loop) →
+    let l = c .before .before .before .before in
+    let t = l .before .before .args .table .now in
+    (c .from-low-to-high .result && allInRange (drop (l .loop .i + 1) itemList) (drop (l .loop .i + 1) t)) ≡ allInRange itemList t
+turn c =
+    let l = c .before .before .before .before in
+    let t = l .before .before .args .table .now in
+    let i = l .loop .i in
+    let h = c .before .before .before .loop-test .taken in
+    let v : toZ w32 (ofZ w32 (getD t i (pos 0))) ≡ getD t i (pos 0) = search needs in
+    ap (λ (b : Bool). b && allInRange (drop (i + 1) itemList) (drop (i + 1) t)) (c .from-low-to-high .ensures ∙ ap₂ fromLowToHigh (read-inside itemList i _ noItem h) v)
+    ∙ sym (check-turn itemList t i h (omega arith)) ∙ l .loop .inv .1
+
+add-i : tie.Need-add-i Inv-loop μ-loop
+add-i c = search needs
+
+loop-less : tie.Need-loop-less Inv-loop μ-loop
+loop-less c = search needs
+
+loop-again : tie.Need-loop-again Inv-loop μ-loop
+loop-again c = (search needs, rw (c .if2 .taken) at (turn (c .before)))
+
+returns-2 : tie.Need-returns-2 Inv-loop μ-loop
+unfolding tableFault
+returns-2 c = simp (eq-eqb _ _ (c .before .before .before .before .before .before .if1 .left), ← rw (c .if2 .left) at (turn (c .before)))
+
+returns-3 : tie.Need-returns-3 Inv-loop μ-loop
+unfolding tableFault
+returns-3 c =
+    let l = c .before in
+    let t = l .before .before .args .table .now in
+    let e : allInRange itemList t ≡ true = sym (l .loop .inv .1) ∙ ap (λ x. allInRange x (drop (l .loop .i) t)) (drop-of-length-le itemList (c .loop-test .left)) in
+    simp (eq-eqb _ _ (l .before .if1 .left), e)
+
+pub check-spec : {M : Type 1} → statement M
+check-spec =
+    tie.close
+    (tie.spec
+    Inv-loop
+    μ-loop
+    returns
+    loop-holds
+    mul-value
+    shared-slice-copy-out-value
+    mul-from-low-to-high
+    array-copy-out-from-low-to-high
+    from-low-to-high-requires
+    add-i
+    loop-less
+    loop-again
+    returns-2
+    returns-3)

@@ -1,0 +1,78 @@
+-- `items::find` meets its contract. The loop's invariant: the lines that are left give the search's answer. Assumes nothing.
+use borrow.Author.Needs.{needs}
+use mathlib.Core.Path.{_≡_, refl, sym, ap, _∙_}
+use mathlib.Core.Bool.{Bool, true, false, cond}
+use Prim.Native.Nat.{_+_, _-_, _≤_}
+use native.Mathlib.Omega.{arith}
+use lib.ListN.{getD, drop, drop-of-length-le}
+use Rattle.items.specs.declared.Found.{Found}
+use Rattle.items.specs.declared.Found.the-variants.{At, Nothing}
+use Rattle.items.specs.ItemList.{items, itemList, noItem, named, firstFrom, found}
+use Rattle.items.proofs.Lists.{read-inside, search-turn}
+use Rattle.items.proofs.find.Statement.{statement}
+use Rattle.items.proofs.find.Tie as tie
+
+abbrev Inv-loop : tie.InvT-loop
+Inv-loop first second list i₀ i = (i ≤ items) × (firstFrom i (named first second) (drop i itemList) ≡ found first second)
+
+abbrev μ-loop : tie.MeasureT-loop
+μ-loop first second list i₀ i = items - i
+
+loop-holds : tie.Need-loop-holds Inv-loop μ-loop
+unfolding found
+loop-holds c = (omega arith, refl)
+
+mul-is-named : tie.Need-mul-is-named Inv-loop μ-loop
+mul-is-named c = search needs
+
+array-copy-out-is-named : tie.Need-array-copy-out-is-named Inv-loop μ-loop
+array-copy-out-is-named c = search needs
+
+is-named-requires : tie.Need-is-named-requires Inv-loop μ-loop
+is-named-requires c κs = search needs
+
+-- a turn: the line at i decides, or the lines after it do
+turn : (c : tie.After-is-named Inv-loop μ-loop) →
+    let l = c .before .before .before in
+    cond (c .is-named .result) (At (l .loop .i)) (firstFrom (l .loop .i + 1) (named (l .before .args .first) (l .before .args .second)) (drop (l .loop .i + 1) itemList))
+    ≡ found (l .before .args .first) (l .before .args .second)
+turn c =
+    let l = c .before .before .before in
+    let at = read-inside itemList (l .loop .i) _ noItem (c .before .before .loop-test .taken) in
+    ap (λ (t : Bool). cond t (At (l .loop .i)) (firstFrom (l .loop .i + 1) (named (l .before .args .first) (l .before .args .second)) (drop (l .loop .i + 1) itemList))) (c .is-named .ensures ∙ ap (named (l .before .args .first) (l .before .args .second)) at)
+    ∙ sym (search-turn (named (l .before .args .first) (l .before .args .second)) itemList (l .loop .i) (c .before .before .loop-test .taken))
+    ∙ l .loop .inv .1
+
+returns : tie.Need-returns Inv-loop μ-loop
+returns c = rw (c .if1 .taken) at (turn (c .before))
+
+add-i : tie.Need-add-i Inv-loop μ-loop
+add-i c = search needs
+
+loop-less : tie.Need-loop-less Inv-loop μ-loop
+loop-less c = search needs
+
+loop-again : tie.Need-loop-again Inv-loop μ-loop
+loop-again c = (search needs, rw (c .if1 .left) at (turn (c .before)))
+
+returns-2 : tie.Need-returns-2 Inv-loop μ-loop
+returns-2 c =
+    let l = c .before in
+    sym (ap (firstFrom (l .loop .i) (named (l .before .args .first) (l .before .args .second))) (drop-of-length-le itemList (c .loop-test .left)))
+    ∙ l .loop .inv .1
+
+pub find-spec : {M : Type 1} → statement M
+find-spec =
+    tie.close
+    (tie.spec
+    Inv-loop
+    μ-loop
+    loop-holds
+    mul-is-named
+    array-copy-out-is-named
+    is-named-requires
+    returns
+    add-i
+    loop-less
+    loop-again
+    returns-2)

@@ -1,0 +1,37 @@
+-- `items::find_register` meets its contract, by the laws of Lookup. Assumes nothing.
+use borrow.Author.Needs.{needs}
+use mathlib.Core.Path.{sym, _∙_}
+use native.Mathlib.Omega.{arith}
+use Rattle.items.specs.ItemList.{foundByRegister}
+use Rattle.items.proofs.Lookup.{numberAt, number-at, number-small, found-nothing, found-at, nothing-past}
+use Rattle.items.proofs.find_register.Statement.{statement}
+use Rattle.items.proofs.find_register.Tie as tie
+
+array-read-number : tie.Need-array-read-number
+array-read-number c = search needs
+
+sub-t12 : tie.Need-sub-t12
+sub-t12 c = search needs
+
+cast-t13 : tie.Need-cast-t13
+unfolding numberAt
+cast-t13 c = omega (arith, number-small (c .before .before .args .register) (c .before .if1 .taken))
+
+returns : tie.Need-returns
+unfolding numberAt
+returns c =
+    let r = c .before .before .args .register in
+    sym (found-nothing (foundByRegister r) (number-at r (c .before .if1 .taken) ∙ c .if2 .taken))
+
+returns-2 : tie.Need-returns-2
+unfolding numberAt
+returns-2 c =
+    let r = c .before .before .args .register in
+    sym (found-at (foundByRegister r) _ (number-at r (c .before .if1 .taken)) (c .if2 .left))
+
+returns-3 : tie.Need-returns-3
+returns-3 c = sym (nothing-past (c .before .args .register) (c .if1 .left))
+
+pub find-register-spec : {M : Type 1} → statement M
+find-register-spec =
+    tie.close (tie.spec array-read-number sub-t12 cast-t13 returns returns-2 returns-3)

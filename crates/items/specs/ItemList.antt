@@ -1,0 +1,72 @@
+-- The item list of document 01, and looking an item up in it. Inside, an item is known by its place in the list, from 0.
+use Prim.Native.Nat.{ℕ, suc}
+use mathlib.Core.Bool.{Bool, true, false, cond, _&&_}
+use mathlib.Core.List.{List, [], _∷_}
+use lib.Dec.{eqb}
+use lib.IntN.{ℤ, pos}
+use lib.ListN.{getD}
+use Rattle.sign.specs.Sign.{minus}
+use Rattle.items.specs.declared.Item.{Item}
+use Rattle.items.specs.declared.Found.{Found}
+use Rattle.items.specs.declared.Found.the-variants.{At, Nothing}
+
+-- the two kinds: what may be written may also be read
+abbrev pub read : Bool
+read = false
+
+abbrev pub write : Bool
+write = true
+
+-- a line of the list: the identifier's two characters, register, kind, decimals, low, high, start
+abbrev pub line : ℕ → ℕ → ℕ → Bool → ℕ → ℤ → ℤ → ℤ → Item
+line a b r k d l h s = record { first = a; second = b; register = r; writable = k; decimals = d; low = l; high = h; start = s }
+
+-- M1 measured value, AA alarm 1 state, AB alarm 2 state, B1 burnout, ER error code, S1 set value, A1 alarm 1, A2 alarm 2,
+-- PB offset, PR ratio, F1 filter, TM test number; 41H is A, 31H is 1
+abbrev pub itemList : List Item
+itemList =
+    line 0x4D 0x31 0x0000 read 1 (minus 1999) (pos 9999) (pos 0)
+    ∷ line 0x41 0x41 0x0001 read 0 (pos 0) (pos 0) (pos 0)
+    ∷ line 0x41 0x42 0x0002 read 0 (pos 0) (pos 0) (pos 0)
+    ∷ line 0x42 0x31 0x0003 read 0 (pos 0) (pos 1) (pos 0)
+    ∷ line 0x45 0x52 0x0004 read 0 (pos 0) (pos 255) (pos 0)
+    ∷ line 0x53 0x31 0x000B write 1 (minus 1999) (pos 9999) (pos 0)
+    ∷ line 0x41 0x31 0x000C write 1 (minus 1999) (pos 9999) (pos 500)
+    ∷ line 0x41 0x32 0x000E write 1 (minus 1999) (pos 9999) (pos 500)
+    ∷ line 0x50 0x42 0x0010 write 2 (minus 1000) (pos 1000) (pos 0)
+    ∷ line 0x50 0x52 0x0011 write 3 (pos 500) (pos 1500) (pos 1000)
+    ∷ line 0x46 0x31 0x0012 write 0 (pos 0) (pos 100) (pos 0)
+    ∷ line 0x54 0x4D 0x0008 write 0 (pos 0) (pos 999) (pos 0)
+    ∷ []
+
+-- how many items there are
+abbrev pub items : ℕ
+items = 12
+
+-- what stands past the list: nothing may be written to it, and no value is in its range
+abbrev pub noItem : Item
+noItem = line 0 0 0 read 0 (pos 1) (pos 0) (pos 0)
+
+-- the line at a place
+abbrev pub itemAt : ℕ → Item
+itemAt i = getD itemList i noItem
+
+-- the first line that passes a test, by its place; the lines left start at place i
+abbrev pub firstFrom : ℕ → (Item → Bool) → List Item → Found
+firstFrom i p [] = Nothing
+firstFrom i p (x ∷ xs) = cond (p x) (At i) (firstFrom (suc i) p xs)
+
+-- the identifier is these two characters
+abbrev pub named : ℕ → ℕ → Item → Bool
+named a b x = eqb (x .first) a && eqb (x .second) b
+
+-- the register is this one
+abbrev pub registered : ℕ → Item → Bool
+registered r x = eqb (x .register) r
+
+-- looked up by identifier, and by register
+unfoldable pub found : ℕ → ℕ → Found
+found a b = firstFrom 0 (named a b) itemList
+
+unfoldable pub foundByRegister : ℕ → Found
+foundByRegister r = firstFrom 0 (registered r) itemList

@@ -1,0 +1,3 @@
+pub mod ItemList
+pub mod Table
+pub mod Promise

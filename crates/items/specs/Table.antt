@@ -1,0 +1,100 @@
+-- The lent table: one entry per item, in the list's order.
+use Prim.Native.Nat.{ℕ, _-_}
+use mathlib.Core.Bool.{Bool, true, false, cond, _&&_}
+use mathlib.Core.List.{List, [], _∷_, map}
+use lib.Dec.{eqb, leb}
+use lib.IntN.{ℤ, pos}
+use lib.ListN.{getD, set, length}
+use lib.Signed.{leZ}
+use Rattle.items.specs.declared.Item.{Item}
+use Rattle.items.specs.ItemList.{items, itemList, itemAt}
+
+-- the numbers given back here; 0 is none
+abbrev pub none : ℕ
+none = 0
+
+abbrev pub wrongLength : ℕ
+wrongLength = 1
+
+abbrev pub entryOutside : ℕ
+entryOutside = 2
+
+abbrev pub noSuchItem : ℕ
+noSuchItem = 6
+
+abbrev pub valueOutside : ℕ
+valueOutside = 7
+
+-- a value from the item's low to its high
+abbrev pub fromLowToHigh : Item → ℤ → Bool
+fromLowToHigh x v = leZ (x .low) v && leZ v (x .high)
+
+unfoldable pub inRange : ℕ → ℤ → Bool
+inRange i v = fromLowToHigh (itemAt i) v
+
+-- each entry is in the range of its item
+abbrev pub allInRange : List Item → List ℤ → Bool
+allInRange [] vs = true
+allInRange (x ∷ xs) [] = true
+allInRange (x ∷ xs) (v ∷ vs) = fromLowToHigh x v && allInRange xs vs
+
+-- the table's fault, the first that it meets
+unfoldable pub tableFault : List ℤ → ℕ
+tableFault t = cond (eqb (length t) items) (cond (allInRange itemList t) none entryOutside) wrongLength
+
+-- a table that has no fault
+abbrev pub goodTable : List ℤ → Bool
+goodTable t = eqb (tableFault t) none
+
+-- the start values, in any table of the right length
+unfoldable pub startValues : List ℤ
+startValues = map (λ (x : Item). x .start) itemList
+
+unfoldable pub startNumber : List ℤ → ℕ
+startNumber t = cond (eqb (length t) items) none wrongLength
+
+unfoldable pub startTable : List ℤ → List ℤ
+startTable t = cond (eqb (length t) items) startValues t
+
+-- what stands at a place of the table, 0 past its end
+abbrev pub entry : List ℤ → ℕ → ℤ
+entry t i = getD t i (pos 0)
+
+-- the places of the items that the alarm states are worked out from
+abbrev pub M1 : ℕ
+M1 = 0
+
+abbrev pub AA : ℕ
+AA = 1
+
+abbrev pub AB : ℕ
+AB = 2
+
+abbrev pub A1 : ℕ
+A1 = 6
+
+abbrev pub A2 : ℕ
+A2 = 7
+
+-- an alarm's state: 1 exactly when M1 is at least the alarm's value, else 0
+unfoldable pub alarm : List ℤ → ℕ → ℤ
+alarm t limit = cond (leZ (entry t limit) (entry t M1)) (pos 1) (pos 0)
+
+-- what either line answers for an item: AA and AB are worked out, any other is its entry
+unfoldable pub answered : List ℤ → ℕ → ℤ
+answered t i = cond (eqb i AA) (alarm t A1) (cond (eqb i AB) (alarm t A2) (entry t i))
+
+-- the table after an item took a value
+unfoldable pub stored : List ℤ → ℕ → ℤ → List ℤ
+stored t i v = set t i v
+
+-- the firmware's put, of an item by its number from 1: the table's fault, no such item, a value outside its range
+unfoldable pub putNumber : List ℤ → ℕ → ℤ → ℕ
+putNumber t n v =
+    cond (goodTable t)
+    (cond (leb 1 n && leb n items) (cond (inRange (n - 1) v) none valueOutside) noSuchItem)
+    (tableFault t)
+
+-- it stores the value where it meets no fault, and else leaves the table
+unfoldable pub putTable : List ℤ → ℕ → ℤ → List ℤ
+putTable t n v = cond (eqb (putNumber t n v) none) (stored t (n - 1) v) t
