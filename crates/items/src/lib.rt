@@ -220,10 +220,9 @@ fn is_named(item: Item, first: u8, second: u8) -> bool
 pub fn find(first: u8, second: u8) -> Found
     ensures { λ r. ⌜ r ≡ found first second ⌝ }
 {
-    let list = LIST;
     let mut i = 0;
     while i < ITEMS {
-        if is_named(list[i], first, second) {
+        if is_named(item_at(i), first, second) {
             return Found::At(i);
         }
         i += 1;
@@ -272,11 +271,10 @@ pub fn check(table: &[i32]) -> u8
     if table.len() != ITEMS {
         return WRONG_LENGTH;
     }
-    let list = LIST;
     let mut i = 0;
     while i < ITEMS {
         let value = table[i];
-        if from_low_to_high(list[i], value) {
+        if from_low_to_high(item_at(i), value) {
             i += 1;
         } else {
             return ENTRY_OUTSIDE;
@@ -295,8 +293,8 @@ pub fn start(table: &mut [i32]) -> u8
     let mut i = 0;
     while i < ITEMS {
         let item = item_at(i);
-        let value = item.start;
-        table[i] = value;
+        let first = item.start;
+        table[i] = first;
         i += 1;
     }
     0
@@ -306,7 +304,10 @@ pub fn start(table: &mut [i32]) -> u8
 fn entry_at(table: &[i32], i: usize) -> i32
     ensures { λ r. ⌜ r ≡ entry (now (table .entry)) i ⌝ }
 {
-    if i < table.len() { table[i] } else { 0 }
+    if table.len() <= i {
+        return 0;
+    }
+    table[i]
 }
 
 // An alarm's state: 1 exactly when M1 is at least the alarm's value.

@@ -11,15 +11,15 @@ use mir.Syntax.{w32}
 use mir.Val.{toZ, ofZ}
 use Rattle.items.specs.ItemList.{items, itemList, noItem}
 use Rattle.items.specs.Table.{fromLowToHigh, allInRange, entry, tableFault}
-use Rattle.items.proofs.Lists.{read-inside, check-turn}
+use Rattle.items.proofs.Lists.{check-turn}
 use Rattle.items.proofs.check.Statement.{statement}
 use Rattle.items.proofs.check.Tie as tie
 
 abbrev Inv-loop : tie.InvT-loop
-Inv-loop table list i₀ i = (i ≤ items) × (allInRange (drop i itemList) (drop i table) ≡ allInRange itemList table)
+Inv-loop table i₀ i = (i ≤ items) × (allInRange (drop i itemList) (drop i table) ≡ allInRange itemList table)
 
 abbrev μ-loop : tie.MeasureT-loop
-μ-loop table list i₀ i = items - i
+μ-loop table i₀ i = items - i
 
 returns : tie.Need-returns Inv-loop μ-loop
 unfolding tableFault
@@ -34,11 +34,8 @@ mul-value c = search needs
 shared-slice-copy-out-value : tie.Need-shared-slice-copy-out-value Inv-loop μ-loop
 shared-slice-copy-out-value c = search needs
 
-mul-from-low-to-high : tie.Need-mul-from-low-to-high Inv-loop μ-loop
-mul-from-low-to-high c = search needs
-
-array-copy-out-from-low-to-high : tie.Need-array-copy-out-from-low-to-high Inv-loop μ-loop
-array-copy-out-from-low-to-high c = search needs
+item-at-requires : tie.Need-item-at-requires Inv-loop μ-loop
+item-at-requires c κs = search needs
 
 from-low-to-high-requires : tie.Need-from-low-to-high-requires Inv-loop μ-loop
 from-low-to-high-requires c κs = search needs
@@ -54,7 +51,7 @@ turn c =
     let i = l .loop .i in
     let h = c .before .before .before .loop-test .taken in
     let v : toZ w32 (ofZ w32 (getD t i (pos 0))) ≡ getD t i (pos 0) = search needs in
-    ap (λ (b : Bool). b && allInRange (drop (i + 1) itemList) (drop (i + 1) t)) (c .from-low-to-high .ensures ∙ ap₂ fromLowToHigh (read-inside itemList i _ noItem h) v)
+    ap (λ (b : Bool). b && allInRange (drop (i + 1) itemList) (drop (i + 1) t)) (c .from-low-to-high .ensures ∙ ap₂ fromLowToHigh (c .before .item-at .ensures) v)
     ∙ sym (check-turn itemList t i h (omega arith)) ∙ l .loop .inv .1
 
 add-i : tie.Need-add-i Inv-loop μ-loop
@@ -88,8 +85,7 @@ check-spec =
     loop-holds
     mul-value
     shared-slice-copy-out-value
-    mul-from-low-to-high
-    array-copy-out-from-low-to-high
+    item-at-requires
     from-low-to-high-requires
     add-i
     loop-less

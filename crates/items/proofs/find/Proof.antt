@@ -8,25 +8,22 @@ use lib.ListN.{getD, drop, drop-of-length-le}
 use Rattle.items.specs.declared.Found.{Found}
 use Rattle.items.specs.declared.Found.the-variants.{At, Nothing}
 use Rattle.items.specs.ItemList.{items, itemList, noItem, named, firstFrom, found}
-use Rattle.items.proofs.Lists.{read-inside, search-turn}
+use Rattle.items.proofs.Lists.{search-turn}
 use Rattle.items.proofs.find.Statement.{statement}
 use Rattle.items.proofs.find.Tie as tie
 
 abbrev Inv-loop : tie.InvT-loop
-Inv-loop first second list i₀ i = (i ≤ items) × (firstFrom i (named first second) (drop i itemList) ≡ found first second)
+Inv-loop first second i₀ i = (i ≤ items) × (firstFrom i (named first second) (drop i itemList) ≡ found first second)
 
 abbrev μ-loop : tie.MeasureT-loop
-μ-loop first second list i₀ i = items - i
+μ-loop first second i₀ i = items - i
 
 loop-holds : tie.Need-loop-holds Inv-loop μ-loop
 unfolding found
 loop-holds c = (omega arith, refl)
 
-mul-is-named : tie.Need-mul-is-named Inv-loop μ-loop
-mul-is-named c = search needs
-
-array-copy-out-is-named : tie.Need-array-copy-out-is-named Inv-loop μ-loop
-array-copy-out-is-named c = search needs
+item-at-requires : tie.Need-item-at-requires Inv-loop μ-loop
+item-at-requires c κs = search needs
 
 is-named-requires : tie.Need-is-named-requires Inv-loop μ-loop
 is-named-requires c κs = search needs
@@ -38,8 +35,7 @@ turn : (c : tie.After-is-named Inv-loop μ-loop) →
     ≡ found (l .before .args .first) (l .before .args .second)
 turn c =
     let l = c .before .before .before in
-    let at = read-inside itemList (l .loop .i) _ noItem (c .before .before .loop-test .taken) in
-    ap (λ (t : Bool). cond t (At (l .loop .i)) (firstFrom (l .loop .i + 1) (named (l .before .args .first) (l .before .args .second)) (drop (l .loop .i + 1) itemList))) (c .is-named .ensures ∙ ap (named (l .before .args .first) (l .before .args .second)) at)
+    ap (λ (t : Bool). cond t (At (l .loop .i)) (firstFrom (l .loop .i + 1) (named (l .before .args .first) (l .before .args .second)) (drop (l .loop .i + 1) itemList))) (c .is-named .ensures ∙ ap (named (l .before .args .first) (l .before .args .second)) (c .before .item-at .ensures))
     ∙ sym (search-turn (named (l .before .args .first) (l .before .args .second)) itemList (l .loop .i) (c .before .before .loop-test .taken))
     ∙ l .loop .inv .1
 
@@ -68,8 +64,7 @@ find-spec =
     Inv-loop
     μ-loop
     loop-holds
-    mul-is-named
-    array-copy-out-is-named
+    item-at-requires
     is-named-requires
     returns
     add-i

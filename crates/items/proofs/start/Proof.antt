@@ -35,11 +35,11 @@ loop-holds c = (omega arith, refl, refl)
 item-at-requires : tie.Need-item-at-requires Inv-loop μ-loop
 item-at-requires c κs = search needs
 
-mul-value : tie.Need-mul-value Inv-loop μ-loop
-mul-value c = search needs
+mul-first : tie.Need-mul-first Inv-loop μ-loop
+mul-first c = search needs
 
-slice-set-from-value : tie.Need-slice-set-from-value Inv-loop μ-loop
-slice-set-from-value c = omega (arith, c .before .before .before .loop .inv .1)
+slice-set-from-first : tie.Need-slice-set-from-first Inv-loop μ-loop
+slice-set-from-first c = omega (arith, c .before .before .before .loop .inv .1)
 
 add-i : tie.Need-add-i Inv-loop μ-loop
 add-i c = search needs
@@ -82,8 +82,8 @@ start-spec =
     returns
     loop-holds
     item-at-requires
-    mul-value
-    slice-set-from-value
+    mul-first
+    slice-set-from-first
     add-i
     loop-less
     loop-again
