@@ -1,0 +1,128 @@
+//! The item list, and what each item answers.
+
+/// One row of the specification's item list.
+pub struct Item {
+    pub id: [u8; 2],
+    pub register: u16,
+    pub writable: bool,
+    pub decimals: u8,
+    pub low: i32,
+    pub high: i32,
+    pub start: i32,
+}
+
+/// A row that the host may only read.
+const fn read(id: &[u8; 2], register: u16, decimals: u8, limits: (i32, i32), start: i32) -> Item {
+    Item {
+        id: *id,
+        register,
+        writable: false,
+        decimals,
+        low: limits.0,
+        high: limits.1,
+        start,
+    }
+}
+
+/// A row that the host may write. "Write" items may also be read.
+const fn write(id: &[u8; 2], register: u16, decimals: u8, limits: (i32, i32), start: i32) -> Item {
+    Item {
+        id: *id,
+        register,
+        writable: true,
+        decimals,
+        low: limits.0,
+        high: limits.1,
+        start,
+    }
+}
+
+/// The item list, in its order: the lent table has one entry per item in the same order.
+pub const ITEMS: [Item; 12] = [
+    read(b"M1", 0x0000, 1, (-1999, 9999), 0),
+    read(b"AA", 0x0001, 0, (0, 0), 0),
+    read(b"AB", 0x0002, 0, (0, 0), 0),
+    read(b"B1", 0x0003, 0, (0, 1), 0),
+    read(b"ER", 0x0004, 0, (0, 255), 0),
+    write(b"S1", 0x000B, 1, (-1999, 9999), 0),
+    write(b"A1", 0x000C, 1, (-1999, 9999), 500),
+    write(b"A2", 0x000E, 1, (-1999, 9999), 500),
+    write(b"PB", 0x0010, 2, (-1000, 1000), 0),
+    write(b"PR", 0x0011, 3, (500, 1500), 1000),
+    write(b"F1", 0x0012, 0, (0, 100), 0),
+    write(b"TM", 0x0008, 0, (0, 999), 0),
+];
+
+/// The row of an item number, which counts from 1.
+pub fn item(number: usize) -> &'static Item {
+    &ITEMS[number - 1]
+}
+
+/// Whether the item's low and high hold the value between them.
+pub fn in_range(number: usize, value: i32) -> bool {
+    item(number).low <= value && value <= item(number).high
+}
+
+/// The number of the item with this identifier.
+pub fn with_id(id: &[u8]) -> Option<usize> {
+    (1..=12).find(|number| item(*number).id == id)
+}
+
+/// The number of the item with this register.
+pub fn with_register(register: u16) -> Option<usize> {
+    (1..=12).find(|number| item(*number).register == register)
+}
+
+/// The first two numbers given back: 1 where the table is not 12 long, 2 where an entry lies
+/// outside its low and high, else 0.
+pub fn table_fault(table: &[i32]) -> u32 {
+    if table.len() != 12 {
+        return 1;
+    }
+    for number in 1..=12 {
+        if !in_range(number, table[number - 1]) {
+            return 2;
+        }
+    }
+    0
+}
+
+/// What an item answers on either line. Entries 2 and 3 stay 0 and their answer is worked out:
+/// AA is 1 exactly when M1 has reached A1, AB exactly when M1 has reached A2. Each other item
+/// answers its entry.
+pub fn answer(table: &[i32], number: usize) -> i32 {
+    let m1 = table[0];
+    let a1 = table[6];
+    let a2 = table[7];
+    match number {
+        2 => i32::from(m1 >= a1),
+        3 => i32::from(m1 >= a2),
+        _ => table[number - 1],
+    }
+}
+
+#[cfg(test)]
+mod tests {
+    use super::*;
+
+    #[test]
+    fn entries_are_found_by_identifier_and_register() {
+        assert_eq!(with_id(b"M1"), Some(1));
+        assert_eq!(with_id(b"TM"), Some(12));
+        assert_eq!(with_id(b"m1"), None);
+        assert_eq!(with_register(0x0008), Some(12));
+        assert_eq!(with_register(0x0012), Some(11));
+        assert_eq!(with_register(0x0005), None);
+    }
+
+    #[test]
+    fn an_alarm_answers_1_from_its_level_up() {
+        let mut table = [0, 0, 0, 0, 0, 0, 500, 501, 0, 1000, 0, 0];
+        table[0] = 499;
+        assert_eq!((answer(&table, 2), answer(&table, 3)), (0, 0));
+        table[0] = 500;
+        assert_eq!((answer(&table, 2), answer(&table, 3)), (1, 0));
+        table[0] = 501;
+        assert_eq!((answer(&table, 2), answer(&table, 3)), (1, 1));
+    }
+}

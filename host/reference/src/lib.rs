@@ -1,0 +1,8 @@
+//! The instrument link, written a second time from the specification alone.
+//!
+//! Nothing here is fast or small. Each rule is a plain function in the words of the specification,
+//! so that another implementation can be compared with it.
+
+pub mod items;
+pub mod line;
+pub mod number;
