@@ -5,4 +5,5 @@
 
 pub mod items;
 pub mod line;
+pub mod modbus;
 pub mod number;

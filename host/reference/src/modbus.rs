@@ -1,0 +1,162 @@
+//! Modbus RTU: the CRC, registers and the three functions.
+
+use crate::items;
+
+/// CRC-16 bit by bit: start FFFFH, A001H, low bit first. As sent: low byte first.
+pub fn crc(bytes: &[u8]) -> [u8; 2] {
+    let mut register: u16 = 0xFFFF;
+    for byte in bytes {
+        register ^= u16::from(*byte);
+        for _ in 0..8 {
+            let carry = register & 1;
+            register >>= 1;
+            if carry == 1 {
+                register ^= 0xA001;
+            }
+        }
+    }
+    let high = (register / 256) as u8;
+    let low = (register % 256) as u8;
+    [low, high]
+}
+
+/// Bytes with their CRC behind them.
+pub fn with_crc(mut bytes: Vec<u8>) -> Vec<u8> {
+    let check = crc(&bytes);
+    bytes.extend(check);
+    bytes
+}
+
+/// Registers hold 16-bit two's complement: below zero, 65536 is added.
+pub fn register_of(value: i32) -> u16 {
+    let whole = if value < 0 { value + 65_536 } else { value };
+    u16::try_from(whole).expect("every item's low and high fit 16 bits")
+}
+
+/// The value that a register's two bytes stand for: from 8000H up, 65536 is taken off.
+pub fn value_of(register: u16) -> i32 {
+    let whole = i32::from(register);
+    if whole >= 0x8000 {
+        whole - 65_536
+    } else {
+        whole
+    }
+}
+
+/// Two bytes, the high one first.
+fn word(high: u8, low: u8) -> u16 {
+    u16::from(high) * 256 + u16::from(low)
+}
+
+/// One frame: the number given back and the reply.
+pub fn answer(table: &mut [i32], address: u8, frame: &[u8]) -> (u32, Vec<u8>) {
+    // 21: length under 4 or over 256.
+    if frame.len() < 4 || frame.len() > 256 {
+        return (21, vec![]);
+    }
+    // 22: CRC.
+    let (body, check) = frame.split_at(frame.len() - 2);
+    if check != crc(body) {
+        return (22, vec![]);
+    }
+    // 23: other address. Address 0 is somebody else's too.
+    if body[0] != address {
+        return (23, vec![]);
+    }
+    match function(table, body) {
+        Ok(reply) => (0, with_crc(reply)),
+        Err(code) => {
+            // Address, function with top bit set, code, CRC. A function of 80H and above keeps
+            // its value.
+            let exception = vec![address, body[1] | 0x80, code];
+            (30 + u32::from(code), with_crc(exception))
+        }
+    }
+}
+
+/// Does what a frame asks. The body is the frame without its CRC; so is the reply. A refusal is
+/// the exception code.
+fn function(table: &mut [i32], body: &[u8]) -> Result<Vec<u8>, u8> {
+    match body[1] {
+        0x03 => read(table, body),
+        0x06 => write(table, body),
+        0x08 => loopback(body),
+        _ => Err(1),
+    }
+}
+
+/// The three functions have frames of 8 bytes, so a body of 6.
+fn check_length(body: &[u8]) -> Result<(), u8> {
+    if body.len() == 6 {
+        Ok(())
+    } else {
+        Err(3)
+    }
+}
+
+/// 03H: quantity 1 to 125, then start plus quantity at most 19. Unlisted registers read 0.
+fn read(table: &[i32], body: &[u8]) -> Result<Vec<u8>, u8> {
+    check_length(body)?;
+    let start = word(body[2], body[3]);
+    let quantity = word(body[4], body[5]);
+    if !(1..=125).contains(&quantity) {
+        return Err(3);
+    }
+    if u32::from(start) + u32::from(quantity) > 19 {
+        return Err(2);
+    }
+    let mut reply = vec![body[0], body[1], (2 * quantity) as u8];
+    for register in start..start + quantity {
+        let value = match items::with_register(register) {
+            Some(item) => items::answer(table, item),
+            None => 0,
+        };
+        reply.extend(register_of(value).to_be_bytes());
+    }
+    Ok(reply)
+}
+
+/// 06H: the register must be a writable item, then the value in range; reply equals request.
+fn write(table: &mut [i32], body: &[u8]) -> Result<Vec<u8>, u8> {
+    check_length(body)?;
+    let item = match items::with_register(word(body[2], body[3])) {
+        Some(item) if items::item(item).writable => item,
+        _ => return Err(2),
+    };
+    let value = value_of(word(body[4], body[5]));
+    if !items::in_range(item, value) {
+        return Err(3);
+    }
+    table[item - 1] = value;
+    Ok(body.to_vec())
+}
+
+/// 08H: test code 0; reply equals request.
+fn loopback(body: &[u8]) -> Result<Vec<u8>, u8> {
+    check_length(body)?;
+    if word(body[2], body[3]) != 0 {
+        return Err(3);
+    }
+    Ok(body.to_vec())
+}
+
+#[cfg(test)]
+mod tests {
+    use super::*;
+
+    #[test]
+    fn a_register_above_7fff_is_a_value_below_zero() {
+        assert_eq!(value_of(0x7FFF), 32_767);
+        assert_eq!(value_of(0x8000), -32_768);
+        assert_eq!(value_of(0xFF6A), -150);
+        assert_eq!(value_of(0xFFFF), -1);
+        for value in -32_768..=32_767 {
+            assert_eq!(value_of(register_of(value)), value);
+        }
+    }
+
+    #[test]
+    fn the_crc_of_nothing_is_its_start() {
+        assert_eq!(crc(&[]), [0xFF, 0xFF]);
+    }
+}
