@@ -5,5 +5,6 @@
 
 pub mod items;
 pub mod line;
+pub mod link;
 pub mod modbus;
 pub mod number;
