@@ -1,0 +1,318 @@
+//! Prints the worked examples, one line each: the input, an arrow, the outcome. EXAMPLES.txt holds
+//! the same lines with the values that the documents print, and says what each kind of line means.
+
+use reference::{items, line, modbus};
+
+/// An instrument at the start: start table, start state, structure 0, time 0, an empty buffer.
+struct Instrument {
+    address: u8,
+    state: [u8; 24],
+    table: [i32; 12],
+    reply: [u8; 256],
+}
+
+impl Instrument {
+    fn at(address: u8) -> Instrument {
+        let mut instrument = Instrument {
+            address,
+            state: [0; 24],
+            table: [0; 12],
+            reply: [0; 256],
+        };
+        reference::start_table(&mut instrument.table);
+        reference::start_link(&mut instrument.state);
+        instrument
+    }
+
+    /// A value put by the firmware.
+    fn put(&mut self, id: &str, value: i32) {
+        let item = items::with_id(id.as_bytes()).expect("an item of the list");
+        let number = reference::put(&mut self.table, item as u32, value);
+        assert_eq!(number, 0, "{} takes {}", id, value);
+    }
+
+    /// The number and the reply of a call's result.
+    fn taken_apart(&self, result: u32) -> (u32, Vec<u8>) {
+        let length = (result / 256) as usize;
+        (result % 256, self.reply[..length].to_vec())
+    }
+
+    /// Bytes on the RKC line: the last byte's number and all replies.
+    fn line(&mut self, bytes: &[u8]) -> (u32, Vec<u8>) {
+        let mut last = 0;
+        let mut replies = vec![];
+        for byte in bytes {
+            let result = reference::byte(
+                &mut self.state,
+                &mut self.table,
+                &mut self.reply,
+                self.address,
+                0,
+                0,
+                *byte,
+            );
+            let (number, reply) = self.taken_apart(result);
+            last = number;
+            replies.extend(reply);
+        }
+        (last, replies)
+    }
+
+    /// A frame on the Modbus line.
+    fn rtu(&mut self, frame: &[u8]) -> (u32, Vec<u8>) {
+        let result = reference::rtu(&mut self.table, &mut self.reply, self.address, frame);
+        self.taken_apart(result)
+    }
+}
+
+/// Bytes as pairs of hexadecimal digits.
+fn hex(bytes: &[u8]) -> String {
+    let pairs: Vec<String> = bytes.iter().map(|byte| format!("{:02X}", byte)).collect();
+    pairs.join(" ")
+}
+
+/// The bytes of pairs of hexadecimal digits.
+fn bytes(pairs: &str) -> Vec<u8> {
+    pairs
+        .split(' ')
+        .map(|pair| u8::from_str_radix(pair, 16).expect("two hexadecimal digits"))
+        .collect()
+}
+
+/// Number text sent to an item as a block.
+fn read(id: &str, text: &str) {
+    let mut block = vec![];
+    block.extend(id.as_bytes());
+    block.extend(text.as_bytes());
+    block.push(line::ETX);
+    let check = line::bcc(&block);
+
+    let mut sent = vec![line::EOT, b'0', b'1', line::STX];
+    sent.extend(block);
+    sent.push(check);
+
+    let mut instrument = Instrument::at(1);
+    let (number, _) = instrument.line(&sent);
+    if number == 0 {
+        let item = items::with_id(id.as_bytes()).expect("an item of the list");
+        println!("read {} \"{}\" -> {}", id, text, instrument.table[item - 1]);
+    } else {
+        println!("read {} \"{}\" -> {}", id, text, number);
+    }
+}
+
+/// A value written as number text.
+fn write(decimals: u8, value: i32) {
+    let mut chars = [0; 6];
+    let number = reference::write_text(decimals, value, &mut chars);
+    if number == 0 {
+        let text = String::from_utf8_lossy(&chars);
+        println!("write {} {} -> \"{}\"", decimals, value, text);
+    } else {
+        println!("write {} {} -> {}", decimals, value, number);
+    }
+}
+
+/// A character in a line structure.
+fn sent(structure: u8, character: u8) {
+    let byte = line::sent(structure, character);
+    println!("sent {} {:02X} -> {:02X}", structure, character, byte);
+}
+
+/// The BCC of characters, ETX included.
+fn bcc(characters: &str) {
+    println!(
+        "bcc {} -> {:02X}",
+        characters,
+        line::bcc(&bytes(characters))
+    );
+}
+
+/// A poll of an item that the firmware has put.
+fn poll(id: &str, value: i32) {
+    let mut instrument = Instrument::at(1);
+    instrument.put(id, value);
+    let mut sent = vec![line::EOT, b'0', b'1'];
+    sent.extend(id.as_bytes());
+    sent.push(line::ENQ);
+    let (_, reply) = instrument.line(&sent);
+    println!("poll {} {} -> {}", id, value, hex(&reply));
+}
+
+/// The bench program's replies.
+fn bench(input: &str) {
+    let (_, replies) = Instrument::at(1).line(&bytes(input));
+    println!("bench {} -> {}", input, hex(&replies));
+}
+
+/// A value as a register.
+fn register(value: i32) {
+    println!("register {} -> {:04X}", value, modbus::register_of(value));
+}
+
+/// The CRC as sent.
+fn crc(body: &str) {
+    println!("crc {} -> {}", body, hex(&modbus::crc(&bytes(body))));
+}
+
+/// A whole frame.
+fn rtu(address: u8, frame: &str) {
+    let (number, reply) = Instrument::at(address).rtu(&bytes(frame));
+    println!(
+        "rtu {:02X}: {} -> {}: {}",
+        address,
+        frame,
+        number,
+        hex(&reply)
+    );
+}
+
+/// A frame without its CRC.
+fn ask(address: u8, body: &str) {
+    let frame = modbus::with_crc(bytes(body));
+    let (number, reply) = Instrument::at(address).rtu(&frame);
+    println!(
+        "ask {:02X}: {} -> {}: {}",
+        address,
+        body,
+        number,
+        hex(&reply)
+    );
+}
+
+/// A frame without its CRC, after the firmware has put an item.
+fn ask_with(address: u8, id: &str, value: i32, body: &str) {
+    let mut instrument = Instrument::at(address);
+    instrument.put(id, value);
+    let (number, reply) = instrument.rtu(&modbus::with_crc(bytes(body)));
+    println!(
+        "ask {:02X}, {} {}: {} -> {}: {}",
+        address,
+        id,
+        value,
+        body,
+        number,
+        hex(&reply)
+    );
+}
+
+/// A request and its response without address and CRC.
+fn pdu(request: &str) {
+    let mut body = vec![1];
+    body.extend(bytes(request));
+    let (number, reply) = Instrument::at(1).rtu(&modbus::with_crc(body));
+    let response = &reply[1..reply.len() - 2];
+    println!("pdu {} -> {}: {}", request, number, hex(response));
+}
+
+/// Document 01.
+fn specification() {
+    read("PB", "-.5");
+    read("PB", "-5");
+    read("PB", "-.058");
+    read("PB", "-0");
+    read("PB", ".05");
+    read("PB", "10.009");
+    read("PB", "-10.01");
+    read("PB", "+0");
+    read("PB", "-.");
+    read("PB", "");
+    read("PB", "-01.500");
+    read("F1", "-.9");
+    read("F1", "100.9");
+    read("F1", "101");
+    read("PR", ".4999");
+    read("PR", ".5");
+    write(2, -5);
+    write(1, 0);
+    write(1, -9999);
+    write(1, -10000);
+    write(1, 99999);
+    write(1, 100000);
+    sent(1, 0x43);
+    sent(2, 0x43);
+    register(-150);
+    crc("01 08 00 00 1F 34");
+    rtu(1, "01 08 00 00 1F 34 E9 EC");
+    crc("02 03 00 E0 00 04");
+    crc("01 06 00 F4 00 32");
+    crc("01 86 02");
+    crc("02 83 03");
+    bench("04 30 31 02 50 42 2D 38 03 04 04 30 31 50 42 05");
+    bcc("50 42 2D 38 03");
+    bcc("50 42 2D 30 38 2E 30 30 03");
+}
+
+/// Document 000.
+fn sa100l() {
+    bcc("4D 31 30 30 30 35 30 30 03");
+    read("PB", "-001.5");
+    read("PB", "-01.5");
+    read("PB", "-1.5");
+    read("PB", "-1.50");
+    read("PB", "-1.500");
+    read("F1", "0.5");
+    read("F1", "100.5");
+    read("PB", "+");
+    read("PB", "-");
+    read("PB", ".");
+    crc("02 03 00 00 00 03");
+    crc("02 03 06 00 00 00 00 00 63");
+    crc("01 06 00 10 01 02");
+    rtu(1, "01 06 00 10 01 02 08 5E");
+    crc("01 88 03");
+    ask(1, "01 08 00 01 1F 34");
+    register(-1);
+    register(555);
+    register(50);
+    register(-200);
+}
+
+/// Document 002.
+fn cb100l() {
+    read("PB", ".03");
+}
+
+/// Document 003.
+fn rex_f9000() {
+    bcc("4D 31 30 32 33 2E 30 30 30 03");
+}
+
+/// Document 004.
+fn pg500() {
+    bcc("4D 31 30 31 30 30 2E 30 03");
+    poll("M1", 1000);
+    crc("02 03 08 00 19 00 00 00 00 00 00");
+    ask_with(2, "M1", 25, "02 03 00 00 00 04");
+    ask(2, "02 03 00 00 00 7E");
+    rtu(1, "01 06 00 F4 00 32 49 ED");
+    crc("01 10 00 F4 00 02 04 00 32 00 32");
+    crc("01 10 00 F4 00 02");
+    crc("01 90 02");
+    register(1050);
+}
+
+/// Modbus over Serial Line and the Modbus Application Protocol.
+fn modbus_documents() {
+    crc("02 07");
+    pdu("08 00 00 A5 37");
+    pdu("01 00 13 00 13");
+    pdu("02 00 C4 00 16");
+    pdu("04 00 08 00 01");
+    pdu("05 00 AC FF 00");
+    pdu("07");
+    pdu("0F 00 13 00 0A 02 CD 01");
+    pdu("10 00 01 00 02 04 00 0A 01 02");
+    pdu("16 00 04 00 F2 00 25");
+    pdu("03 00 6B 00 03");
+    pdu("06 00 01 00 03");
+}
+
+fn main() {
+    specification();
+    sa100l();
+    cb100l();
+    rex_f9000();
+    pg500();
+    modbus_documents();
+}
