@@ -1,2 +1,4 @@
 pub mod Xor
+pub mod Shifts
+pub mod AsSent
 pub mod Sealed

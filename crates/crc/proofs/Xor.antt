@@ -6,7 +6,7 @@ use native.Mathlib.Omega.{arith}
 use lib.Arith.{bin-ind}
 use lib.Bits.{bitXor, xor-add-and, xor-shr, xor-comm, xor-self, xor-zero-r}
 
-pub xor-odd : (a b : ℕ) → bitXor a b % 2 ≡ (a + b) % 2
+pub xor-odd : (a b : ℕ) → bitXor a b % 2 ≡ (a % 2 + b % 2) % 2
 xor-odd a b = omega (arith, xor-add-and a b)
 
 pub xor-half : (a b : ℕ) → bitXor a b / 2 ≡ bitXor (a / 2) (b / 2)

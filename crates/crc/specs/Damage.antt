@@ -6,11 +6,7 @@ use Prim.Native.Nat.{ℕ, _+_, _/_, _%_, _^_, _≤_, _<_}
 use lib.Bits.{bitXor}
 use lib.Count.{ones}
 use lib.ListN.{length, getD}
-use Rattle.crc.specs.Crc.{isRight}
-
--- every element is a byte
-abbrev pub Bytes : List ℕ → Type 0
-Bytes f = (i : ℕ) → getD f i 0 < 256
+use Rattle.crc.specs.Crc.{Bytes, isRight}
 
 -- bit i as sent, counted from 0: the bytes in their order, and of each byte the lowest bit first
 unfoldable pub bitAt : List ℕ → ℕ → ℕ
