@@ -13,15 +13,13 @@ use lib.ListN.{length, getD}
 use lib.Pow.{pow-add, shr-shr, high, low, field, mod-mod-pow}
 use Rattle.crc.specs.Crc.{Bytes, shifts, crcFrom}
 use Rattle.crc.specs.Damage.{bitAt, flip, flipped}
+use Rattle.crc.proofs.Bytes.{rest-bytes}
 use Rattle.crc.proofs.Xor.{xor-assoc}
 use Rattle.crc.proofs.Shifts.{shifts-xor, shifts-low, shifts-add}
 
 unfoldable pub asSent : List ℕ → ℕ
 asSent [] = 0
 asSent (b ∷ f) = asSent f * 2 ^ 8 + b
-
-pub rest-bytes : (b : ℕ) (f : List ℕ) → Bytes (b ∷ f) → Bytes f
-rest-bytes b f h i = h (suc i)
 
 -- eight more bits
 eight-more : (n : ℕ) → 8 + 8 * n ≡ 8 * suc n

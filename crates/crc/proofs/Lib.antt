@@ -1,4 +1,12 @@
 pub mod Xor
 pub mod Shifts
+pub mod Bytes
+pub mod Flip
 pub mod AsSent
+pub mod Framed
+pub mod Unseen
+pub mod Burst
+pub mod Odd
+pub mod Detects
 pub mod Sealed
+pub mod Single

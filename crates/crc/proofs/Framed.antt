@@ -1,0 +1,103 @@
+-- A frame is right exactly where it is the frame of its message, and the CRC of a whole right frame is 0.
+-- Assumes nothing.
+use mathlib.Core.Path.{_≡_, refl, sym, ap, ap₂, _∙_}
+use mathlib.Core.Bool.{Bool, true, false, _&&_}
+use mathlib.Core.List.{List, [], _∷_, _++_}
+use Prim.Native.Nat.{ℕ, zero, suc, _+_, _-_, _*_, _/_, _%_, _^_, _≤_, _<_}
+use native.Mathlib.Omega.{arith}
+use borrow.Author.Tests.{le-leb, leb-true, eqb-true, eq-eqb}
+use lib.Bits.{bitXor, xor-lt, xor-self}
+use lib.Dec.{eqb, leb, lit<}
+use lib.ListN.{length, getD, take, drop, length-append, take-append-drop}
+use lib.Seq.{drop-cons, drop-length, take-at, getD-at, getD-append-add, getD-take}
+use Rattle.crc.specs.Crc.{Bytes, start, shifts, crcFrom, crc16Of, lowFirst, framed, messageOf, lastWord, isRight}
+use Rattle.crc.proofs.Bytes.{append-bytes, low-first-bytes, rest-bytes, take-bytes}
+use Rattle.crc.proofs.Shifts.{shifts-small, shifts-zero}
+use Rattle.crc.proofs.AsSent.{asSent, crc-as-sent}
+
+from-small : (crc : ℕ) (bytes : List ℕ) → crc < 2 ^ 16 → Bytes bytes → crcFrom crc bytes < 2 ^ 16
+unfolding crcFrom
+from-small crc [] h hb = h
+from-small crc (b ∷ bytes) h hb =
+    let low : b < 256 = hb 0 in
+    from-small _ bytes (shifts-small 8 (bitXor crc b) (xor-lt 16 crc b h (omega arith))) (rest-bytes b bytes hb)
+
+-- a CRC is a number of 16 bits
+pub crc-small : (bytes : List ℕ) → Bytes bytes → crc16Of bytes < 2 ^ 16
+unfolding crc16Of
+crc-small bytes h = from-small start bytes (lit< tt) h
+
+pub framed-bytes : (message : List ℕ) → Bytes message → Bytes (framed message)
+unfolding framed
+framed-bytes message h = append-bytes message (lowFirst (crc16Of message)) h (low-first-bytes (crc16Of message) (crc-small message h))
+
+pub length-framed : (message : List ℕ) → length (framed message) ≡ length message + 2
+unfolding framed
+length-framed message = length-append message (lowFirst (crc16Of message))
+
+pub framed-right : (message : List ℕ) → isRight (framed message) ≡ true
+unfolding framed isRight
+framed-right message =
+    let crc = crc16Of message in
+    let f = message ++ lowFirst crc in
+    let n : length f ≡ length message + 2 = length-append message (lowFirst crc) in
+    let e : length message ≡ length f - 2 = omega arith in
+    let e₁ : length f - 1 ≡ length message + 1 = omega arith in
+    let low : getD f (length f - 2) 0 ≡ crc % 256 = getD-at message (crc % 256) (crc / 256 ∷ []) 0 (length f - 2) e in
+    let high : getD f (length f - 1) 0 ≡ crc / 256 = ap (λ (k : ℕ). getD f k 0) e₁ ∙ getD-append-add message (lowFirst crc) 1 0 in
+    ap₂ _&&_ (le-leb 2 (length f) (omega arith))
+    (eq-eqb (crc16Of (messageOf f)) (lastWord f) (ap crc16Of (take-at message (lowFirst crc) (length f - 2) e) ∙ omega arith))
+
+both : (a b : Bool) → a && b ≡ true → (a ≡ true) × (b ≡ true)
+both true b e = (refl, e)
+both false b e = let z : _≡_ {A = ℕ} 0 1 = cc in absurd (omega arith)
+
+-- the definition's two tests
+right-parts : (f : List ℕ) → isRight f ≡ true → (2 ≤ length f) × (crc16Of (messageOf f) ≡ lastWord f)
+unfolding isRight
+right-parts f e =
+    let q = both (leb 2 (length f)) (eqb (crc16Of (messageOf f)) (lastWord f)) e in
+    (leb-true 2 (length f) (q .0), eqb-true (crc16Of (messageOf f)) (lastWord f) (q .1))
+
+last-two : (f : List ℕ) → 2 ≤ length f → drop (length f - 2) f ≡ getD f (length f - 2) 0 ∷ getD f (length f - 1) 0 ∷ []
+last-two f h =
+    let e : suc (length f - 2) ≡ length f - 1 = omega arith in
+    let e₁ : suc (length f - 1) ≡ length f = omega arith in
+    drop-cons f (length f - 2) 0 (omega arith)
+    ∙ ap (λ (t : List ℕ). getD f (length f - 2) 0 ∷ t)
+    (ap (λ (n : ℕ). drop n f) e ∙ drop-cons f (length f - 1) 0 (omega arith)
+    ∙ ap (λ (t : List ℕ). getD f (length f - 1) 0 ∷ t) (ap (λ (n : ℕ). drop n f) e₁ ∙ drop-length f))
+
+word-bytes : (low high : ℕ) → low < 256 → high < 256 → low ∷ high ∷ [] ≡ lowFirst (low + 256 * high)
+word-bytes low high hl hh =
+    let l : low ≡ (low + 256 * high) % 256 = omega arith in
+    let h : high ≡ (low + 256 * high) / 256 = omega arith in
+    ap₂ (λ (x y : ℕ). x ∷ y ∷ []) l h
+
+pub right-framed : (f : List ℕ) → Bytes f → isRight f ≡ true → f ≡ framed (messageOf f)
+unfolding framed
+right-framed f h e =
+    let q = right-parts f e in
+    sym (take-append-drop (length f - 2) f)
+    ∙ ap (λ (t : List ℕ). messageOf f ++ t)
+    (last-two f (q .0) ∙ word-bytes _ _ (h (length f - 2)) (h (length f - 1)) ∙ ap lowFirst (sym (q .1)))
+
+crc-append : (crc : ℕ) (s t : List ℕ) → crcFrom crc (s ++ t) ≡ crcFrom (crcFrom crc s) t
+unfolding crcFrom
+crc-append crc [] t = refl
+crc-append crc (b ∷ s) t = crc-append _ s t
+
+-- a register with itself behind it, the low byte first, comes to 0
+own-crc : (crc : ℕ) → crc < 2 ^ 16 → crcFrom crc (lowFirst crc) ≡ 0
+unfolding asSent
+own-crc crc h =
+    let e : asSent (lowFirst crc) ≡ crc = omega arith in
+    crc-as-sent crc (lowFirst crc) (low-first-bytes crc h) ∙ ap (λ (n : ℕ). shifts 16 (bitXor crc n)) e
+    ∙ ap (shifts 16) (xor-self crc) ∙ shifts-zero 16
+
+pub right-zero : (f : List ℕ) → Bytes f → isRight f ≡ true → crc16Of f ≡ 0
+unfolding crc16Of framed
+right-zero f h e =
+    let message = messageOf f in
+    ap (crcFrom start) (right-framed f h e) ∙ crc-append start message (lowFirst (crc16Of message))
+    ∙ own-crc (crc16Of message) (crc-small message (take-bytes (length f - 2) f h))
