@@ -1,10 +1,10 @@
--- Moving a number keeps whether its ones are even or odd in number: the polynomial has three of them, and the bit that falls out is a fourth.
+-- Shifts keep the number of ones even or odd: where a one falls out, the polynomial brings three.
 -- Assumes nothing.
-use mathlib.Core.Path.{_≡_, refl, ap, ap₂, _∙_}
+use mathlib.Core.Path.{_≡_, refl, ap, _∙_}
 use Prim.Native.Nat.{ℕ, zero, suc, _+_, _*_, _/_, _%_, _<_}
 use native.Mathlib.Omega.{arith}
 use lib.Arith.{bin-ind}
-use lib.Bits.{bitXor, xor-add-and}
+use lib.Bits.{bitXor}
 use lib.Count.{ones, ones-step, ones-cat}
 use lib.Dec.{lit<}
 use Rattle.crc.specs.Crc.{poly, shift, shifts}
@@ -16,8 +16,9 @@ ones-zero = refl
 
 ones-poly : ones poly ≡ 3
 unfolding ones
-ones-poly = ones-cat 13 5 1 (lit< tt)
+ones-poly = ones-cat 8 (poly / 256) (poly % 256) (lit< tt)
 
+-- what a bit brings
 ones-bit-poly : (x : ℕ) → x < 2 → ones (x * poly) % 2 ≡ x
 ones-bit-poly zero h = ap (λ (n : ℕ). n % 2) ones-zero
 ones-bit-poly (suc zero) h = ap (λ (n : ℕ). n % 2) ones-poly
@@ -34,7 +35,8 @@ ones-xor =
     ones-step (bitXor a b) ∙ ap (λ (n : ℕ). bitXor a b % 2 + ones n) (xor-half a b) in
     let t : a % 2 + b % 2 + (ones (a / 2) + ones (b / 2)) ≡ ones a + ones b = omega (arith, ones-step a, ones-step b) in
     ap (λ (n : ℕ). n % 2) s
-    ∙ sum-odd (bitXor a b % 2) (a % 2 + b % 2) (ones (bitXor (a / 2) (b / 2))) (ones (a / 2) + ones (b / 2)) (omega (arith, xor-odd a b)) (ih (b / 2))
+    ∙ sum-odd (bitXor a b % 2) (a % 2 + b % 2) (ones (bitXor (a / 2) (b / 2))) (ones (a / 2) + ones (b / 2))
+    (omega (arith, xor-odd a b)) (ih (b / 2))
     ∙ ap (λ (n : ℕ). n % 2) t)
 
 shift-odd : (a : ℕ) → ones (shift a) % 2 ≡ ones a % 2

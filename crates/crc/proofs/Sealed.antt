@@ -1,5 +1,5 @@
--- What callers use of sealing: what it comes to with room for the CRC and without it, that the buffer then starts with a right frame, and
--- what stays as it was.
+-- What callers use of sealing: what it comes to with room for the CRC and without it, that the buffer then starts with a right
+-- frame, and what stays as it was.
 -- Assumes nothing.
 use mathlib.Core.Path.{_≡_, refl, sym, ap, ap₂, _∙_}
 use mathlib.Core.Bool.{Bool, true, false, cond}
@@ -11,11 +11,11 @@ use borrow.Author.Tests.{le-leb, lt-leb, leb-true}
 use lib.Dec.{leb}
 use lib.ListN.{length, take, drop}
 use lib.Seq.{drop-append-add, drop-at, drop-drop, length-front, length-sets, length-take-le, sets, sets-eq, take-append-seam, take-at}
-use Rattle.crc.specs.Crc.{Bytes, framed, isRight, sealed, sealedLength, Seals}
-use Rattle.crc.proofs.Bytes.{append-bytes, drop-bytes, take-bytes}
-use Rattle.crc.proofs.Framed.{framed-bytes, framed-right, length-framed}
+use Rattle.crc.specs.Crc.{framed, isRight, sealed, sealedLength, Seals}
+use Rattle.crc.proofs.Framed.{framed-right, length-framed}
 
-pub with-room : (buffer : List ℕ) (n : ℕ) → n + 2 ≤ length buffer → Seals buffer n (framed (take n buffer) ++ drop (n + 2) buffer) (n + 2)
+pub with-room : (buffer : List ℕ) (n : ℕ) → n + 2 ≤ length buffer
+    → Seals buffer n (framed (take n buffer) ++ drop (n + 2) buffer) (n + 2)
 unfolding sealed sealedLength
 with-room buffer n room = record {
   buffer = rw (le-leb (n + 2) (length buffer) room);
@@ -29,7 +29,7 @@ without-room buffer n full = record {
   handed = rw (lt-leb (n + 2) (length buffer) full);
 }
 
--- what holds of the buffer as it was, and with room also of the frame before the rest, holds after sealing
+-- What holds of the buffer as it was, and with room of the frame and the rest as well, holds of the sealed buffer.
 sealed-by : (P : List ℕ → Type 0) (buffer : List ℕ) (n : ℕ) → P buffer
     → (n + 2 ≤ length buffer → P (framed (take n buffer) ++ drop (n + 2) buffer)) → P (sealed buffer n)
 unfolding sealed
@@ -39,17 +39,21 @@ sealed-by P buffer n without with = go (leb (n + 2) (length buffer)) refl
     go true e = with (leb-true (n + 2) (length buffer) e)
     go false e = without
 
--- the frame of the first n bytes has n + 2
+-- the frame is two bytes longer
 frame-length : (buffer : List ℕ) (n : ℕ) → n + 2 ≤ length buffer → length (framed (take n buffer)) ≡ n + 2
 frame-length buffer n room = length-framed (take n buffer) ∙ ap (λ (k : ℕ). k + 2) (length-take-le n buffer (omega arith))
 
+-- the buffer then starts with the frame
 pub sealed-frame : (buffer : List ℕ) (n : ℕ) → n + 2 ≤ length buffer → take (n + 2) (sealed buffer n) ≡ framed (take n buffer)
 sealed-frame buffer n room =
-    ap (take (n + 2)) (sym (with-room buffer n room .buffer)) ∙ take-at (framed (take n buffer)) (drop (n + 2) buffer) (n + 2) (frame-length buffer n room)
+    ap (take (n + 2)) (sym (with-room buffer n room .buffer))
+    ∙ take-at (framed (take n buffer)) (drop (n + 2) buffer) (n + 2) (frame-length buffer n room)
 
+-- which is right
 pub sealed-right : (buffer : List ℕ) (n : ℕ) → n + 2 ≤ length buffer → isRight (take (n + 2) (sealed buffer n)) ≡ true
 sealed-right buffer n room = ap isRight (sealed-frame buffer n room) ∙ framed-right (take n buffer)
 
+-- what lies behind stays
 pub sealed-rest : (buffer : List ℕ) (n : ℕ) → drop (n + 2) (sealed buffer n) ≡ drop (n + 2) buffer
 sealed-rest buffer n =
     sealed-by (λ b. drop (n + 2) b ≡ drop (n + 2) buffer) buffer n refl
@@ -58,27 +62,24 @@ sealed-rest buffer n =
 pub sealed-same-length : (buffer : List ℕ) (n : ℕ) → length (sealed buffer n) ≡ length buffer
 sealed-same-length buffer n =
     sealed-by (λ b. length b ≡ length buffer) buffer n refl
-    (λ room. length-front buffer (framed (take n buffer)) (n + 2) (frame-length buffer n room ∙ sym (length-take-le (n + 2) buffer room)))
+    (λ room. length-front buffer (framed (take n buffer)) (n + 2)
+    (frame-length buffer n room ∙ sym (length-take-le (n + 2) buffer room)))
 
-pub sealed-bytes : (buffer : List ℕ) (n : ℕ) → Bytes buffer → Bytes (sealed buffer n)
-sealed-bytes buffer n h =
-    sealed-by Bytes buffer n h
-    (λ room. append-bytes (framed (take n buffer)) (drop (n + 2) buffer) (framed-bytes (take n buffer) (take-bytes n buffer h)) (drop-bytes (n + 2) buffer h))
+-- a body stored at the front of a buffer
+front : (buffer body : List ℕ) → length body ≤ length buffer → sets buffer 0 body ≡ body ++ drop (length body) buffer
+front buffer body h =
+    sets-eq body buffer 0 (omega arith) ∙ ap (λ (k : ℕ). body ++ drop k buffer) (zero-add (length body))
 
--- a message stored at the front of a buffer
-front : (buffer message : List ℕ) → length message ≤ length buffer → sets buffer 0 message ≡ message ++ drop (length message) buffer
-front buffer message h =
-    sets-eq message buffer 0 (omega arith) ∙ ap (λ (k : ℕ). message ++ drop k buffer) (zero-add (length message))
-
--- sealed, it is as if its frame had been stored there
-pub sealed-message : (buffer message : List ℕ) → length message + 2 ≤ length buffer → sealed (sets buffer 0 message) (length message) ≡ sets buffer 0 (framed message)
-sealed-message buffer message room =
-    let n = length message in
-    let stored = front buffer message (omega arith) in
-    let kept : take n (sets buffer 0 message) ≡ message = ap (take n) stored ∙ take-append-seam message (drop n buffer) in
-    let rest : drop (n + 2) (sets buffer 0 message) ≡ drop (n + 2) buffer =
-    ap (drop (n + 2)) stored ∙ drop-append-add message (drop n buffer) 2 ∙ drop-drop 2 n buffer in
-    let len : length (framed message) ≡ n + 2 = length-framed message in
-    sym (with-room (sets buffer 0 message) n (omega (arith, length-sets buffer 0 message)) .buffer)
+-- Sealing a body that stands at the front of a buffer leaves the body's frame there.
+pub sealed-body : (buffer body : List ℕ) → length body + 2 ≤ length buffer
+    → sealed (sets buffer 0 body) (length body) ≡ sets buffer 0 (framed body)
+sealed-body buffer body room =
+    let n = length body in
+    let stored = front buffer body (omega arith) in
+    let kept : take n (sets buffer 0 body) ≡ body = ap (take n) stored ∙ take-append-seam body (drop n buffer) in
+    let rest : drop (n + 2) (sets buffer 0 body) ≡ drop (n + 2) buffer =
+    ap (drop (n + 2)) stored ∙ drop-append-add body (drop n buffer) 2 ∙ drop-drop 2 n buffer in
+    let len : length (framed body) ≡ n + 2 = length-framed body in
+    sym (with-room (sets buffer 0 body) n (omega (arith, length-sets buffer 0 body)) .buffer)
     ∙ ap₂ (λ (s t : List ℕ). framed s ++ t) kept rest
-    ∙ sym (front buffer (framed message) (omega arith) ∙ ap (λ (k : ℕ). framed message ++ drop k buffer) len)
+    ∙ sym (front buffer (framed body) (omega arith) ∙ ap (λ (k : ℕ). framed body ++ drop k buffer) len)

@@ -1,14 +1,15 @@
--- What moving the register does: it respects the exclusive or, takes zeros off the low end, and loses no register of 16 bits.
+-- What shifts do, to numbers of any size: they respect the exclusive or, and they take zeros off the low end. A register of 16 bits
+-- stays one, and only 0 shifts to 0.
 -- Assumes nothing.
 use mathlib.Core.Path.{_≡_, refl, sym, ap, ap₂, _∙_}
 use Prim.Native.Nat.{ℕ, zero, suc, _+_, _*_, _/_, _%_, _^_, _<_}
-use native.Mathlib.Nat.{mod-lt, zero-lt-suc, zero-add, suc-add, mul-one}
+use native.Mathlib.Nat.{zero-add, suc-add, mul-one}
 use native.Mathlib.Omega.{arith}
 use lib.Bits.{bitXor, xor-zero-r, xor-lt, shifted-half, shifted-even}
 use Rattle.crc.specs.Crc.{poly, shift, shifts}
 use Rattle.crc.proofs.Xor.{xor-odd, xor-half, xor-pairs, xor-zero}
 
--- a bit times the polynomial respects the exclusive or
+-- a bit times the polynomial respects it
 poly-xor : (x y : ℕ) → x < 2 → y < 2 → (x + y) % 2 * poly ≡ bitXor (x * poly) (y * poly)
 poly-xor zero zero hx hy = refl
 poly-xor zero (suc zero) hx hy = refl
@@ -25,6 +26,7 @@ shift-xor a b =
     ∙ ap (bitXor (bitXor (a / 2) (b / 2))) (poly-xor (a % 2) (b % 2) (omega arith) (omega arith))
     ∙ xor-pairs (a / 2) (b / 2) (a % 2 * poly) (b % 2 * poly)
 
+-- shifts of an exclusive or
 pub shifts-xor : (n a b : ℕ) → shifts n (bitXor a b) ≡ bitXor (shifts n a) (shifts n b)
 unfolding shifts
 shifts-xor zero a b = refl
@@ -35,6 +37,7 @@ unfolding shifts shift
 shifts-zero zero = refl
 shifts-zero (suc n) = shifts-zero n
 
+-- m shifts and then n
 pub shifts-add : (m n a : ℕ) → shifts (m + n) a ≡ shifts n (shifts m a)
 unfolding shifts
 shifts-add zero n a = ap (λ (k : ℕ). shifts k a) (zero-add n)
@@ -45,7 +48,7 @@ pub shift-even : (a : ℕ) → a % 2 ≡ 0 → shift a ≡ a / 2
 unfolding shift
 shift-even a e = ap (λ (x : ℕ). bitXor (a / 2) (x * poly)) e ∙ xor-zero-r (a / 2)
 
--- n zeros at the low end go in n shifts
+-- n shifts take n zeros off the low end
 pub shifts-low : (n a : ℕ) → shifts n (a * 2 ^ n) ≡ a
 unfolding shifts
 shifts-low zero a = mul-one a
@@ -60,7 +63,7 @@ unfolding shifts
 shifts-small zero a h = h
 shifts-small (suc n) a h = shifts-small n (shift a) (shift-small a h)
 
--- Of the registers of 16 bits only 0 moves to 0: an odd one keeps the polynomial's top bit, which half of it lacks.
+-- Of the registers of 16 bits only 0 shifts to 0: an odd one takes on the polynomial's top bit, which its half lacks.
 shift-keeps : (a : ℕ) → a < 2 ^ 16 → shift a ≡ 0 → a ≡ 0
 unfolding shift
 shift-keeps a h e = go (a % 2) refl

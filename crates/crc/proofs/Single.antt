@@ -12,5 +12,6 @@ crc16-single bytes p q = p ∙ sym q
 pub is-right-single : (frame : List ℕ) {r s : Bool} → r ≡ isRight frame → s ≡ isRight frame → r ≡ s
 is-right-single frame p q = p ∙ sym q
 
-pub seal-single : {before after other : List ℕ} {n r s : ℕ} → Seals before n after r → Seals before n other s → (after ≡ other) × (r ≡ s)
-seal-single p q = (p .buffer ∙ sym (q .buffer), p .handed ∙ sym (q .handed))
+pub seal-single : (before : List ℕ) (n : ℕ) {after other : List ℕ} {r s : ℕ} → Seals before n after r → Seals before n other s
+    → (after ≡ other) × (r ≡ s)
+seal-single before n p q = (p .buffer ∙ sym (q .buffer), p .handed ∙ sym (q .handed))

@@ -8,14 +8,14 @@ const START: u16 = 0xFFFF;
 
 const POLY: u16 = 0xA001;
 
-// The register after one bit. It is worked out without a branch: the bit that falls out is 0 or 1 times the polynomial.
+// The register after one shift. The bit that falls out, 0 or 1, times the polynomial spares a test.
 fn shift(crc: u16) -> u16
     ensures { λ r. ⌜ r ≡ shift crc ⌝ }
 {
     (crc >> 1) ^ (crc % 2 * POLY)
 }
 
-// The register after one byte more.
+// The register after one byte more: a shift for each of its bits.
 fn take_in(crc: u16, byte: u8) -> u16
     ensures { λ r. ⌜ r ≡ shifts 8 (bitXor crc byte) ⌝ }
 {
@@ -41,14 +41,14 @@ pub fn crc16(bytes: &[u8]) -> u16
     crc
 }
 
-// The number of 16 bits that two bytes make.
+// The 16-bit number that two bytes stand for.
 fn word(low: u8, high: u8) -> u16
     ensures { λ r. ⌜ r ≡ low + 256 * high ⌝ }
 {
     (low as u16) + 256 * (high as u16)
 }
 
-// Whether a frame's last two bytes are the CRC of all before them; no where it has not two bytes.
+// Whether a frame's last two bytes are the CRC of all before them; a frame of under two bytes is not right.
 pub fn is_right(frame: &[u8]) -> bool
     ensures { λ r. ⌜ r ≡ isRight (now (frame .entry)) ⌝ }
 {

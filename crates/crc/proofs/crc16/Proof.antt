@@ -1,6 +1,6 @@
 -- `crc::crc16` meets its contract. The loop's invariant: the bytes that are left, taken into the register as it is, give the result.
 -- Assumes nothing.
-use mathlib.Core.Path.{_≡_, refl, sym, ap, ap₂, _∙_}
+use mathlib.Core.Path.{_≡_, sym, ap, ap₂, _∙_}
 use mathlib.Core.List.{List}
 use Prim.Native.Nat.{ℕ, _+_, _-_, _≤_, _<_}
 use native.Mathlib.Numerals.{add-one}
@@ -49,7 +49,8 @@ loop-less : tie.Need-loop-less Inv-loop μ-loop
 loop-less c = search needs
 
 loop-again : tie.Need-loop-again Inv-loop μ-loop
-loop-again c = (search needs, one-less _ _ _ _ _ (c .before .before .loop-test .taken) (c .before .before .before .loop .inv .1) (c .take-in .ensures))
+loop-again c =
+    (search needs, one-less _ _ _ _ _ (c .before .before .loop-test .taken) (c .before .before .before .loop .inv .1) (c .take-in .ensures))
 
 returns : tie.Need-returns Inv-loop μ-loop
 returns c = none-left _ _ _ _ (c .loop-test .left) (c .before .loop .inv .1)

@@ -1,6 +1,6 @@
 -- `crc::is_right` meets its contract: the code compares the two numbers that the definition compares.
 -- Assumes nothing.
-use mathlib.Core.Path.{_≡_, refl, sym, ap, ap₂, _∙_}
+use mathlib.Core.Path.{_≡_, sym, ap, ap₂, _∙_}
 use mathlib.Core.Bool.{false}
 use mathlib.Core.List.{List}
 use Prim.Native.Nat.{ℕ, _+_, _-_, _*_, _≤_, _<_}
@@ -10,7 +10,7 @@ use borrow.Author.Tests.{le-leb, lt-leb}
 use lib.Dec.{eqb}
 use lib.ListN.{length, getD}
 use lib.Seq.{length-take-le}
-use Rattle.crc.specs.Crc.{crc16Of, messageOf, isRight}
+use Rattle.crc.specs.Crc.{crc16Of, bodyOf, isRight}
 use Rattle.crc.proofs.is_right.Statement.{statement}
 use Rattle.crc.proofs.is_right.Tie as tie
 
@@ -18,7 +18,7 @@ short : (frame : List ℕ) → length frame < 2 → false ≡ isRight frame
 unfolding isRight
 short frame h = rw (lt-leb 2 (length frame) h)
 
-compared : (frame : List ℕ) (crc last : ℕ) → 2 ≤ length frame → crc ≡ crc16Of (messageOf frame)
+compared : (frame : List ℕ) (crc last : ℕ) → 2 ≤ length frame → crc ≡ crc16Of (bodyOf frame)
     → last ≡ getD frame (length frame - 2) 0 + 256 * getD frame (length frame - 2 + 1) 0 → eqb crc last ≡ isRight frame
 unfolding isRight
 compared frame crc last h p q =

@@ -1,7 +1,7 @@
 -- `crc::seal` meets its contract: with room its two stores, one behind the other, leave the frame; without room nothing changes.
 -- Assumes nothing.
-use mathlib.Core.Path.{_≡_, sym, ap, _∙_}
-use mathlib.Core.List.{List, _++_}
+use mathlib.Core.Path.{_≡_, sym, ap, ap₂, _∙_}
+use mathlib.Core.List.{List, [], _∷_, _++_}
 use mathlib.Core.Logic.{⊎-elim}
 use Prim.Native.Nat.{ℕ, _+_, _/_, _%_, _≤_, _<_}
 use native.Mathlib.Numerals.{add-one}
@@ -9,28 +9,33 @@ use native.Mathlib.Omega.{arith}
 use borrow.Author.Needs.{needs}
 use borrow.Author.Tests.{ltb-true, ltb-false}
 use lib.ListN.{length, take, drop, set, length-set}
-use lib.Seq.{length-take-le, sets-eq}
-use Rattle.crc.specs.Crc.{lowFirst, crc16Of, framed, sealed, Seals}
+use lib.Seq.{length-take-le, sets, sets-eq}
+use Rattle.crc.specs.Crc.{lowFirst, crc16Of, framed, Seals}
 use Rattle.crc.proofs.Sealed.{with-room, without-room}
 use Rattle.crc.proofs.seal.Statement.{statement}
 use Rattle.crc.proofs.seal.Tie as tie
 
--- the two stores
-stored : (buffer : List ℕ) (n crc : ℕ) → n + 2 ≤ length buffer → crc ≡ crc16Of (take n buffer)
-    → Seals buffer n (set (set buffer n (crc % 256)) (n + 1) (crc / 256)) (n + 2)
+-- nothing was stored
+unchanged : (buffer : List ℕ) (n r : ℕ) → length buffer < n + 2 → r ≡ 0 → Seals buffer n buffer r
+unchanged buffer n r full e = rw e (without-room buffer n full)
+
+-- the two bytes of the CRC were stored
+stored : (buffer : List ℕ) (n crc low high r : ℕ) → n + 2 ≤ length buffer → crc ≡ crc16Of (take n buffer) → low ≡ crc % 256
+    → high ≡ crc / 256 → r ≡ n + 2 → Seals buffer n (set (set buffer n low) (n + 1) high) r
 unfolding framed
-stored buffer n crc room e = record {
+stored buffer n crc low high r room e l h len = record {
   buffer =
-      ap (λ (k : ℕ). set (set buffer n (crc % 256)) k (crc / 256)) (add-one n) ∙ sets-eq (lowFirst crc) buffer n room
-      ∙ ap (λ (k : ℕ). take n buffer ++ lowFirst k ++ drop (n + 2) buffer) e ∙ with-room buffer n room .buffer;
-  handed = with-room buffer n room .handed;
+      ap (λ (k : ℕ). set (set buffer n low) k high) (add-one n) ∙ ap₂ (λ (x y : ℕ). sets buffer n (x ∷ y ∷ [])) l h
+      ∙ sets-eq (lowFirst crc) buffer n room ∙ ap (λ (k : ℕ). take n buffer ++ lowFirst k ++ drop (n + 2) buffer) e
+      ∙ with-room buffer n room .buffer;
+  handed = len ∙ with-room buffer n room .handed;
 }
 
 sub-if2 : tie.Need-sub-if2
 sub-if2 c = search needs
 
 returns : tie.Need-returns
-returns c = without-room _ _ (⊎-elim (λ w. omega arith) (λ w. omega (arith, ltb-true)) (c .if1 .came))
+returns c = unchanged _ _ _ (⊎-elim (λ w. omega arith) (λ w. omega (arith, ltb-true)) (c .if1 .came)) (omega arith)
 
 slice-reshare-prefix-crc16 : tie.Need-slice-reshare-prefix-crc16
 slice-reshare-prefix-crc16 c = omega (arith, ltb-false)
@@ -63,7 +68,7 @@ same-length : tie.Need-same-length
 same-length c = search needs
 
 returns-2 : tie.Need-returns-2
-returns-2 c = stored _ _ _ (omega (arith, ltb-false)) (c .crc16 .ensures)
+returns-2 c = stored _ _ _ _ _ _ (omega (arith, ltb-false)) (c .crc16 .ensures) (omega arith) (omega arith) (omega arith)
 
 pub seal-spec : {M : Type 1} → statement M
 seal-spec =

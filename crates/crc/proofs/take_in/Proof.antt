@@ -14,7 +14,8 @@ Inv-loop crc byte moved₀ left₀ moved left = shifts left moved ≡ shifts 8 m
 abbrev μ-loop : tie.MeasureT-loop
 μ-loop crc byte moved₀ left₀ moved left = left
 
-one-less : (left crc next result : ℕ) → 0 < left → shifts left crc ≡ result → next ≡ shift crc → shifts (left - 1) next ≡ result
+one-less : (left crc next result : ℕ) → 0 < left → shifts left crc ≡ result → next ≡ shift crc
+    → shifts (left - 1) next ≡ result
 unfolding shifts
 one-less zero crc next result some inv e = omega arith
 one-less (suc left) crc next result some inv e =
