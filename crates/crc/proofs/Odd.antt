@@ -14,9 +14,13 @@ pub ones-zero : ones 0 ≡ 0
 unfolding ones
 ones-zero = refl
 
-ones-poly : ones poly ≡ 3
+-- counted by its two bytes
+two-counts : ones (poly / 256) + ones (poly % 256) ≡ 3
 unfolding ones
-ones-poly = ones-cat 8 (poly / 256) (poly % 256) (lit< tt)
+two-counts = refl
+
+ones-poly : ones poly ≡ 3
+ones-poly = ones-cat 8 (poly / 256) (poly % 256) (lit< tt) ∙ two-counts
 
 -- what a bit brings
 ones-bit-poly : (x : ℕ) → x < 2 → ones (x * poly) % 2 ≡ x
