@@ -1,17 +1,19 @@
--- Laws of ranges, one for each side of a range, and of a BCC that takes characters in one by one.
+-- Laws of ranges, one for each side of a range; of the low seven bits; and of a BCC that takes characters in one by one.
 -- Assumes nothing.
-use mathlib.Core.Path.{_≡_, refl}
+use mathlib.Core.Path.{_≡_, refl, sym}
 use mathlib.Core.Bool.{Bool, true, false, cond}
 use mathlib.Core.List.{List, [], _∷_, _++_}
 use Prim.Native.Nat.{ℕ, _+_, _≤_, _<_}
 use native.Mathlib.Nat.{mod-lt}
 use native.Mathlib.Numerals.{add-one}
-use borrow.Author.Tests.{le-leb, lt-leb}
+use native.Mathlib.Omega.{arith}
+use borrow.Author.Tests.{leb-true, le-leb, lt-leb}
 use lib.Bits.{bitXor, xor-lt}
 use lib.Dec.{leb, lit<}
 use lib.ListN.{length, getD, drop}
 use lib.Seq.{drop-cons}
-use Rattle.line.specs.Line.{topBit, lowSeven, bccFrom, within}
+use Rattle.sign.proofs.Laws.{contrary}
+use Rattle.line.specs.Line.{topBit, lowSeven, bccFrom, within, printable}
 
 pub within-in : (a b x : ℕ) → a ≤ x → x ≤ b → within a b x ≡ true
 within-in a b x low high = simp (le-leb a x low, le-leb x b high)
@@ -25,6 +27,17 @@ within-above a b x high = simp (lt-leb x b high) (either (leb a x))
     either : (t : Bool) → cond t false false ≡ false
     either true = refl
     either false = refl
+
+-- what a range holds is between its ends
+pub within-true : (a b x : ℕ) → within a b x ≡ true → (a ≤ x) × (x ≤ b)
+within-true a b x = go (leb a x) refl
+  where
+    go : (t : Bool) → leb a x ≡ t → cond t (leb x b) false ≡ true → (a ≤ x) × (x ≤ b)
+    go true low high = (leb-true a x low, leb-true x b high)
+    go false low e = contrary (sym e)
+
+pub printable-small : (c : ℕ) → printable c ≡ true → c < topBit
+printable-small c e = let h = within-true 0x20 0x7E c e in omega arith
 
 pub low-seven-small : (c : ℕ) → lowSeven c < topBit
 low-seven-small c = mod-lt c (lit< tt)

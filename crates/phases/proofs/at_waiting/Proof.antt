@@ -1,0 +1,30 @@
+-- `phases::at_waiting` meets its contract: ACK before and after the last item, NAK, and neither.
+-- Assumes nothing.
+use native.Mathlib.Omega.{arith}
+use borrow.Author.Needs.{needs}
+use borrow.Author.Tests.{lt-ltb, le-ltb, ne-eqb}
+use Rattle.phases.specs.Phases.{lastItem}
+use Rattle.phases.proofs.at_waiting.Statement.{statement}
+use Rattle.phases.proofs.at_waiting.Tie as tie
+
+add-t6 : tie.Need-add-t6
+add-t6 c = search needs
+
+returns : tie.Need-returns
+returns c =
+    let item = c .before .before .args .item in
+    rw (c .before .match .keys1) (simp (lt-ltb item lastItem (omega arith)))
+
+returns-2 : tie.Need-returns-2
+returns-2 c =
+    let item = c .before .before .args .item in
+    rw (c .before .match .keys1) (simp (le-ltb item lastItem (omega arith)))
+
+returns-3 : tie.Need-returns-3
+returns-3 c = rw (c .match .keys2)
+
+returns-4 : tie.Need-returns-4
+returns-4 c = simp (ne-eqb _ _ (c .match .rest .0 .1), ne-eqb _ _ (c .match .rest .1))
+
+pub at-waiting-spec : {M : Type 1} → statement M
+at-waiting-spec = tie.close (tie.spec add-t6 returns returns-2 returns-3 returns-4)
