@@ -1,4 +1,5 @@
--- Two answers that meet one promise of this crate are the same answer: each promise is an equation.
+-- Two answers that meet one promise of this crate are the same answer: each promise is an equation. The law for that is passed on
+-- to the crates above.
 -- Assumes nothing.
 use mathlib.Core.Path.{_≡_}
 use mathlib.Core.Bool.{Bool}
