@@ -1,0 +1,111 @@
+-- What a turn of each loop over characters, and each call of the reading, tells of the definitions.
+-- Assumes nothing.
+use mathlib.Core.Path.{_≡_, refl}
+use mathlib.Core.Bool.{Bool, true, false, cond, _&&_}
+use mathlib.Core.List.{List, [], _∷_, _++_}
+use Prim.Native.Nat.{ℕ, suc, _+_, _-_, _*_, _/_, _^_, _<_, _≤_}
+use native.Mathlib.Nat.{zero-add, pow-le-pow-right, mul-le-mul-left, div-le-self}
+use native.Mathlib.Omega.{arith}
+use borrow.Author.Tests.{eq-eqb, ne-eqb, le-leb}
+use lib.Dec.{leb}
+use lib.ListN.{length, getD, take, drop, length-append, length-drop}
+use lib.Seq.{drop-cons, take-all}
+use Rattle.sign.specs.Sign.{signed}
+use Rattle.sign.proofs.Laws.{contrary}
+use Rattle.text.specs.Characters.{minusSign, point, zeroDigit, isDigit}
+use Rattle.text.specs.Numbers.{mostDecimals}
+use Rattle.text.specs.Reading.{allDigits, numberFrom, digitsFrom, pointAt, ofParts, ofUnsigned, ofText}
+use Rattle.text.specs.declared.Digits.{Digits}
+use Rattle.text.specs.declared.Digits.the-variants.{Number, Other}
+use Rattle.text.specs.declared.Reading.{Reading}
+use Rattle.text.specs.declared.Reading.the-variants.{Value, NoNumber}
+use Rattle.text.proofs.Numerals.{all-append, number-append, number-below}
+
+-- ---- one character
+
+module _ (cs : List ℕ) (i : ℕ) (h : i < length cs) where
+  pub point-here : getD cs i 0 ≡ point → pointAt (drop i cs) ≡ 0
+  point-here e = rw (drop-cons cs i 0 h, eq-eqb _ _ e)
+
+  pub point-later : (getD cs i 0 ≡ point → ⊥) → pointAt (drop i cs) ≡ suc (pointAt (drop (suc i) cs))
+  point-later e = rw (drop-cons cs i 0 h, ne-eqb _ _ e)
+
+  pub digit-here : (n : ℕ) → isDigit (getD cs i 0) ≡ true → digitsFrom n (drop i cs) ≡ digitsFrom (n * 10 + (getD cs i 0 - zeroDigit)) (drop (suc i) cs)
+  digit-here n e = rw (drop-cons cs i 0 h, e)
+
+  pub other-here : (n : ℕ) → isDigit (getD cs i 0) ≡ false → digitsFrom n (drop i cs) ≡ Other
+  other-here n e = rw (drop-cons cs i 0 h, e)
+
+-- ---- what `digits_from` found
+
+number-of : (b : Bool) (x m : ℕ) → cond b (Number x) Other ≡ Number m → (b ≡ true) × (m ≡ x)
+number-of true x m e = (refl, cc)
+number-of false x m e = let z : _≡_ {A = Bool} true false = cc in contrary z
+
+other-of : (b : Bool) (x : ℕ) → cond b (Number x) Other ≡ Other → b ≡ false
+other-of true x e = cc
+other-of false x e = refl
+
+number-found : (n : ℕ) (cs : List ℕ) (m : ℕ) → digitsFrom n cs ≡ Number m → (allDigits cs ≡ true) × (m ≡ numberFrom n cs)
+number-found n cs m e = number-of (allDigits cs) (numberFrom n cs) m e
+
+-- a number of k digits, and the digits after it
+pub found-below : (k n : ℕ) (cs : List ℕ) (m : ℕ) → n < 10 ^ k → digitsFrom n cs ≡ Number m → m < 10 ^ (k + length cs)
+found-below k n cs m h e = let p = number-found n cs m e in rw (p .1) (number-below cs n k (p .0) h)
+
+-- ---- what the parts before and after the point say
+
+and-false : (a b : Bool) → b ≡ false → (a && b) ≡ false
+and-false true b e = e
+and-false false b e = refl
+
+module _ (minus : Bool) (d : ℕ) (whole fraction : List ℕ) where
+  refused-by : (allDigits (whole ++ fraction) && leb 1 (length (whole ++ fraction))) ≡ false → NoNumber ≡ ofParts minus d whole fraction
+  refused-by e = rw e
+
+  pub no-whole : digitsFrom 0 whole ≡ Other → NoNumber ≡ ofParts minus d whole fraction
+  no-whole e = refused-by (rw (all-append whole fraction, other-of (allDigits whole) (numberFrom 0 whole) e))
+
+  pub no-fraction : (front : ℕ) → digitsFrom front fraction ≡ Other → NoNumber ≡ ofParts minus d whole fraction
+  no-fraction front e =
+      refused-by (rw (all-append whole fraction, and-false (allDigits whole) (allDigits fraction) (other-of (allDigits fraction) (numberFrom front fraction) e)))
+
+  pub no-digits : length whole + length fraction ≡ 0 → NoNumber ≡ ofParts minus d whole fraction
+  no-digits e =
+      refused-by (and-false (allDigits (whole ++ fraction)) (leb 1 (length (whole ++ fraction))) (rw (length-append whole fraction, e)))
+
+  module _ (front n : ℕ) (w : digitsFrom 0 whole ≡ Number front) (f : digitsFrom front fraction ≡ Number n) where
+    pub number-small : n < 10 ^ (length whole + length fraction)
+    number-small = found-below (length whole) front fraction n (rw (zero-add (length whole)) at (found-below 0 0 whole front (omega arith) w)) f
+
+    pub digits-say : (length whole + length fraction ≡ 0 → ⊥) → Value (signed minus (n * 10 ^ d / 10 ^ length fraction)) ≡ ofParts minus d whole fraction
+    digits-say some =
+        let p = number-found 0 whole front w in
+        let q = number-found front fraction n f in
+        let l = length-append whole fraction in
+        rw (all-append whole fraction, p .0, q .0, le-leb 1 (length (whole ++ fraction)) (omega arith), number-append 0 whole fraction, ← (p .1), ← (q .1)) refl
+
+-- at most six digits, times at most 1000, and what a quotient leaves of that
+pub scaled : (n d : ℕ) → n < 10 ^ 6 → d ≤ mostDecimals → n * 10 ^ d < 10 ^ 9
+scaled n d h le = let p = mul-le-mul-left n (pow-le-pow-right {n = 10} (omega arith) le) in omega arith
+
+pub sized : (n d q : ℕ) → n < 10 ^ 6 → d ≤ mostDecimals → n * 10 ^ d / q < 10 ^ 9
+sized n d q h le = let p = div-le-self (n * 10 ^ d) q in let m = scaled n d h le in omega arith
+
+-- ---- parts of the text
+
+-- what `&cs[a..]` holds
+pub rest : (cs : List ℕ) (a : ℕ) → take (length cs - a) (drop a cs) ≡ drop a cs
+rest cs a = take-all (length cs - a) (drop a cs) (rw length-drop (omega arith))
+
+pub empty : (cs : List ℕ) → length cs ≡ 0 → cs ≡ []
+empty [] e = refl
+empty (c ∷ cs) e = absurd (omega arith)
+
+pub with-minus : (d : ℕ) (cs : List ℕ) → 0 < length cs → getD cs 0 0 ≡ minusSign → ofUnsigned true d (drop 1 cs) ≡ ofText d cs
+with-minus d [] h e = absurd (omega arith)
+with-minus d (c ∷ cs) h e = rw (eq-eqb c minusSign e)
+
+pub without-minus : (d : ℕ) (cs : List ℕ) → 0 < length cs → (getD cs 0 0 ≡ minusSign → ⊥) → ofUnsigned false d cs ≡ ofText d cs
+without-minus d [] h e = absurd (omega arith)
+without-minus d (c ∷ cs) h e = rw (ne-eqb c minusSign e)

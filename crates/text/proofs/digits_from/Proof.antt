@@ -1,0 +1,104 @@
+-- `text::digits_from` meets its contract. The invariant: only digits so far, so those left decide, and the number has at most as
+-- many digits as six less those left.
+-- Assumes nothing.
+use mathlib.Core.Path.{_≡_, refl, sym, _∙_}
+use mathlib.Core.Bool.{true}
+use Prim.Native.Nat.{ℕ, suc, _≤_, _<_, _+_, _-_, _*_, _^_}
+use native.Mathlib.Numerals.{add-one}
+use native.Mathlib.Nat.{add-suc}
+use native.Mathlib.Omega.{arith}
+use borrow.Author.Needs.{needs}
+use lib.ListN.{length, drop, getD, drop-of-length-le}
+use Rattle.text.specs.Characters.{zeroDigit, nineDigit, isDigit}
+use Rattle.text.specs.Reading.{digitsFrom}
+use Rattle.text.proofs.Numerals.{at-most, digit-range, one-more}
+use Rattle.text.proofs.Steps.{digit-here, other-here}
+use Rattle.text.proofs.digits_from.Statement.{statement}
+use Rattle.text.proofs.digits_from.Tie as tie
+use Rattle.text.proofs.digits_from.Reads as reads
+use Rattle.text.proofs.digits_from.Lts as lts
+use Rattle.text.proofs.is_digit.Reads as is-digit-reads
+
+abbrev Inv-loop : tie.InvT-loop
+Inv-loop from chars n₀ i₀ n i = (i ≤ length chars) × (n < 10 ^ (6 - length chars + i)) × (digitsFrom n (drop i chars) ≡ digitsFrom from chars)
+
+abbrev μ-loop : tie.MeasureT-loop
+μ-loop from chars n₀ i₀ n i = length chars - i
+
+loop-holds : tie.Need-loop-holds Inv-loop μ-loop
+loop-holds c = (omega arith, at-most (c .before .args .from) (6 - length (c .before .args .chars .now)) (6 - length (c .before .args .chars .now) + 0) (c .before .pre .1) (omega arith), refl)
+
+shared-slice-read-c : tie.Need-shared-slice-read-c Inv-loop μ-loop
+shared-slice-read-c c = omega arith
+
+is-digit-requires : tie.Need-is-digit-requires Inv-loop μ-loop
+is-digit-requires c κs = search needs
+
+-- the character that a turn takes in is a digit, and the number so far has at most five
+digit : (c : tie.Then1 Inv-loop μ-loop) → isDigit (getD (c .before .before .before .before .before .before .args .chars .now) (c .before .before .before .before .loop .i) 0) ≡ true
+digit c = sym (c .before .is-digit .ensures) ∙ c .if1 .taken
+
+range : (c : tie.Then1 Inv-loop μ-loop) →
+    let x = getD (c .before .before .before .before .before .before .args .chars .now) (c .before .before .before .before .loop .i) 0 in (zeroDigit ≤ x) × (x ≤ nineDigit)
+range c = digit-range (getD (c .before .before .before .before .before .before .args .chars .now) (c .before .before .before .before .loop .i) 0) (digit c)
+
+small : (c : tie.Then1 Inv-loop μ-loop) → c .before .before .before .before .loop .n < 10 ^ 5
+small c =
+    let l = c .before .before .before .before in
+    at-most (l .loop .n) (6 - length (l .before .before .args .chars .now) + l .loop .i) 5 (l .loop .inv .1) (omega (arith, l .before .before .pre .0))
+
+mul-n : tie.Need-mul-n Inv-loop μ-loop
+mul-n c = let h = small c in omega arith
+
+sub-n : tie.Need-sub-n Inv-loop μ-loop
+sub-n c = range c .0
+
+cast-n : tie.Need-cast-n Inv-loop μ-loop
+cast-n c = let h = range c in omega arith
+
+add-n : tie.Need-add-n Inv-loop μ-loop
+add-n c = let h = small c in let r = range c in omega arith
+
+returns : tie.Need-returns Inv-loop μ-loop
+returns c =
+    let l = c .before .before .before .before in
+    sym (other-here (l .before .before .args .chars .now) (l .loop .i) (c .before .before .before .loop-test .taken) (l .loop .n) (sym (c .before .is-digit .ensures) ∙ c .if1 .left)) ∙ l .loop .inv .2
+
+add-i : tie.Need-add-i Inv-loop μ-loop
+add-i c = omega arith
+
+loop-less : tie.Need-loop-less Inv-loop μ-loop
+loop-less c = omega arith
+
+loop-again : tie.Need-loop-again Inv-loop μ-loop
+loop-again c =
+    let l = c .before .before .before .before in
+    let chars = l .before .before .args .chars .now in
+    let r = range c in
+    rw (add-one (l .loop .i), add-suc (6 - length chars) (l .loop .i)) (
+      omega arith,
+      one-more (l .loop .n) (6 - length chars + l .loop .i) (getD chars (l .loop .i) 0 - zeroDigit) (l .loop .inv .1) (omega arith),
+      sym (digit-here chars (l .loop .i) (c .before .before .before .loop-test .taken) (l .loop .n) (digit c)) ∙ l .loop .inv .2,
+    )
+
+returns-2 : tie.Need-returns-2 Inv-loop μ-loop
+returns-2 c = rw (drop-of-length-le (c .before .before .before .args .chars .now) (c .loop-test .left)) at (c .before .loop .inv .2)
+
+pub digits-from-spec : {M : Type 1} → statement M
+digits-from-spec =
+    tie.close
+    (tie.spec
+    Inv-loop
+    μ-loop
+    loop-holds
+    shared-slice-read-c
+    is-digit-requires
+    mul-n
+    sub-n
+    cast-n
+    add-n
+    returns
+    add-i
+    loop-less
+    loop-again
+    returns-2)

@@ -1,0 +1,89 @@
+-- `text::write` meets its contract: what the calls tell of sign, size and limit makes the definition's tests come out as the
+-- code's did.
+-- Assumes nothing.
+use mathlib.Core.Path.{_≡_, ap, _∙_}
+use mathlib.Core.Bool.{Bool}
+use mathlib.Core.List.{List}
+use Prim.Native.Nat.{ℕ, _^_}
+use native.Mathlib.Omega.{arith}
+use borrow.Author.Tests.{lt-ltb, le-ltb}
+use lib.IntN.{pos, natAbs}
+use lib.Signed.{ltZ}
+use Rattle.sign.proofs.Laws.{less-of, size-of}
+use Rattle.text.specs.Numbers.{mostDecimals, none}
+use Rattle.text.specs.Writing.{room}
+use Rattle.text.specs.declared.Written.{Written}
+use borrow.Author.Needs.{needs}
+use Rattle.text.proofs.write.Statement.{statement}
+use Rattle.text.proofs.write.Tie as tie
+use Rattle.text.proofs.write.Reads as reads
+use Rattle.text.proofs.write.Lts as lts
+use Rattle.sign.proofs.less.Reads as less-reads
+use Rattle.sign.proofs.size.Reads as size-reads
+use Rattle.text.proofs.layout.Reads as layout-reads
+use Rattle.text.proofs.limit.Reads as limit-reads
+use Rattle.text.proofs.refused.Reads as refused-reads
+
+abbrev filled : List ℕ → Written
+filled cs = record { number = none; chars = cs }
+
+refused-requires : tie.Need-refused-requires
+refused-requires c κs = search needs
+
+returns : tie.Need-returns
+returns c = rw (lt-ltb mostDecimals (c .before .before .args .decimals) (c .before .if1 .taken)) (c .refused .ensures)
+
+less-requires : tie.Need-less-requires
+less-requires c κs = search needs
+
+size-requires : tie.Need-size-requires
+size-requires c κs = search needs
+
+limit-requires : tie.Need-limit-requires
+limit-requires c κs = search needs
+
+layout-requires : tie.Need-layout-requires
+layout-requires c κs = search needs
+
+refused-requires-2 : tie.Need-refused-requires-2
+refused-requires-2 c κs = search needs
+
+-- the sign, the size and the limit, as the calls gave them
+found : (c : tie.After-limit) →
+    let s = c .before .before .before .before in
+    (c .before .before .less .result ≡ ltZ (s .args .value) (pos 0)) × (c .before .size .result ≡ natAbs (s .args .value))
+    × (c .limit .result ≡ 10 ^ room 6 (s .args .decimals) (ltZ (s .args .value) (pos 0)))
+found c =
+    let s = c .before .before .before .before in
+    let m = less-of (s .args .value) (pos 0) (s .fits .value .sfits) (omega arith) (c .before .before .less .ensures) in
+    (m, size-of (s .args .value) (s .fits .value .sfits) (c .before .size .ensures), c .limit .ensures ∙ ap (λ (b : Bool). 10 ^ room 6 (s .args .decimals) b) m)
+
+returns-2 : tie.Need-returns-2
+returns-2 c =
+    let l = c .before .before in
+    let f = found l in
+    let s = l .before .before .before .before in
+    rw (le-ltb mostDecimals (s .args .decimals) (l .before .before .before .if1 .left), lt-ltb (natAbs (s .args .value)) (10 ^ room 6 (s .args .decimals) (ltZ (s .args .value) (pos 0))) (rw (f .1, f .2) at (c .before .if2 .taken)))
+    (ap filled (c .layout .ensures ∙ rw (f .0, f .1)))
+
+returns-3 : tie.Need-returns-3
+returns-3 c =
+    let l = c .before .before in
+    let f = found l in
+    let s = l .before .before .before .before in
+    rw (le-ltb mostDecimals (s .args .decimals) (l .before .before .before .if1 .left), le-ltb (natAbs (s .args .value)) (10 ^ room 6 (s .args .decimals) (ltZ (s .args .value) (pos 0))) (rw (f .1, f .2) at (c .before .if2 .left)))
+    (c .refused2 .ensures)
+
+pub write-spec : {M : Type 1} → statement M
+write-spec =
+    tie.close
+    (tie.spec
+    refused-requires
+    returns
+    less-requires
+    size-requires
+    limit-requires
+    layout-requires
+    refused-requires-2
+    returns-2
+    returns-3)

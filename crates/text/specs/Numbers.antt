@@ -1,0 +1,37 @@
+-- The numbers that a reading or a writing gives back, and the most decimals that either takes.
+use Prim.Native.Nat.{ℕ}
+use lib.IntN.{ℤ, pos}
+use Rattle.text.specs.declared.Reading.{Reading}
+use Rattle.text.specs.declared.Reading.the-variants.{Value, Decimals, TooLong, NoNumber}
+
+abbrev pub mostDecimals : ℕ
+mostDecimals = 3
+
+abbrev pub none : ℕ
+none = 0
+
+abbrev pub doesNotFit : ℕ
+doesNotFit = 8
+
+abbrev pub tooManyDecimals : ℕ
+tooManyDecimals = 9
+
+abbrev pub overSixCharacters : ℕ
+overSixCharacters = 15
+
+abbrev pub noNumber : ℕ
+noNumber = 16
+
+-- the number given back for each reading
+abbrev pub numberOf : Reading → ℕ
+numberOf (Value v) = none
+numberOf Decimals = tooManyDecimals
+numberOf TooLong = overSixCharacters
+numberOf NoNumber = noNumber
+
+-- the value read, 0 where it was refused
+abbrev pub valueOf : Reading → ℤ
+valueOf (Value v) = v
+valueOf Decimals = pos 0
+valueOf TooLong = pos 0
+valueOf NoNumber = pos 0

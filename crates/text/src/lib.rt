@@ -1,0 +1,240 @@
+// Number text both ways: what the characters of a number say, and the characters of a value. The numbers of a refusal are
+// document 01's.
+ghost use mathlib.Core.Path.{_≡_};
+ghost use mathlib.Core.Bool.{cond};
+ghost use Prim.Native.Nat.{_+_, _-_, _<_, _≤_, _^_};
+ghost use lib.ListN.{length};
+ghost use Rattle.text.specs.Characters.{isDigit, minusSign};
+ghost use Rattle.text.specs.Numbers.{mostDecimals, numberOf, valueOf};
+ghost use Rattle.text.specs.Reading.{digitsFrom, ofParts, ofUnsigned, pointAt, reading};
+ghost use Rattle.text.specs.Writing.{refusal, room, textOf, written};
+
+// How many characters a number has: as many when it is written, at most as many when it is read.
+const WIDTH: usize = 6;
+
+const MOST_DECIMALS: u8 = 3;
+
+// The numbers given back: none, and why text or a value is refused.
+pub const NONE: u8 = 0;
+
+pub const DOES_NOT_FIT: u8 = 8;
+
+pub const TOO_MANY_DECIMALS: u8 = 9;
+
+pub const OVER_SIX_CHARACTERS: u8 = 15;
+
+pub const NO_NUMBER: u8 = 16;
+
+// What the characters of a number say: its value, or why they have none.
+pub enum Reading {
+    Value(i32),
+    Decimals,
+    TooLong,
+    NoNumber,
+}
+
+impl Reading {
+    // The number given back for this reading.
+    pub fn number(self) -> u8
+        ensures { λ r. ⌜ r ≡ numberOf self ⌝ }
+    {
+        match self {
+            Reading::Value(_) => NONE,
+            Reading::Decimals => TOO_MANY_DECIMALS,
+            Reading::TooLong => OVER_SIX_CHARACTERS,
+            Reading::NoNumber => NO_NUMBER,
+        }
+    }
+
+    // The value read, 0 where there is none.
+    pub fn value(self) -> i32
+        ensures { λ r. ⌜ r ≡ valueOf self ⌝ }
+    {
+        let Reading::Value(v) = self else {
+            return 0;
+        };
+        v
+    }
+}
+
+// What a run of characters says where each of them must be a digit.
+enum Digits {
+    Number(u32),
+    Other,
+}
+
+const TENS: [u32; 7] = [1, 10, 100, 1000, 10000, 100000, 1000000];
+
+// 10 to the power k.
+fn power(k: usize) -> u32
+    requires { ⌜ k < 7 ⌝ }
+    ensures { λ r. ⌜ r ≡ 10 ^ k ⌝ }
+{
+    TENS[k]
+}
+
+// How many characters stand before the first point, or in all where there is none.
+fn point_at(chars: &[u8]) -> usize
+    ensures { λ r. ⌜ r ≡ pointAt (now (chars .entry)) ⌝ }
+{
+    let mut i = 0;
+    while i < chars.len() {
+        if chars[i] == b'.' {
+            return i;
+        }
+        i += 1;
+    }
+    i
+}
+
+fn is_digit(c: u8) -> bool
+    ensures { λ r. ⌜ r ≡ isDigit c ⌝ }
+{
+    b'0' <= c && c <= b'9'
+}
+
+// The number that these digits write after the digits of `from`.
+fn digits_from(from: u32, chars: &[u8]) -> Digits
+    requires { ⌜ (length (now chars) ≤ 6) × (from < 10 ^ (6 - length (now chars))) ⌝ }
+    ensures { λ r. ⌜ r ≡ digitsFrom from (now (chars .entry)) ⌝ }
+{
+    let mut n = from;
+    let mut i = 0;
+    while i < chars.len() {
+        let c = chars[i];
+        if is_digit(c) {
+            n = n * 10 + (c - b'0') as u32;
+        } else {
+            return Digits::Other;
+        }
+        i += 1;
+    }
+    Digits::Number(n)
+}
+
+// What the characters before and after the point say. One quotient cuts the fraction off, and the sign comes last.
+fn of_parts(minus: bool, decimals: usize, whole: &[u8], fraction: &[u8]) -> Reading
+    requires { ⌜ (decimals ≤ mostDecimals) × (length (now whole) + length (now fraction) ≤ 6) ⌝ }
+    ensures { λ r. ⌜ r ≡ ofParts minus decimals (now (whole .entry)) (now (fraction .entry)) ⌝ }
+{
+    let Digits::Number(front) = digits_from(0, whole) else {
+        return Reading::NoNumber;
+    };
+    let Digits::Number(n) = digits_from(front, fraction) else {
+        return Reading::NoNumber;
+    };
+    let places = fraction.len();
+    if whole.len() + places == 0 {
+        return Reading::NoNumber;
+    }
+    let size = n * power(decimals) / power(places);
+    Reading::Value(sign::make(minus, size))
+}
+
+// What the characters after the sign say.
+fn of_unsigned(minus: bool, decimals: usize, chars: &[u8]) -> Reading
+    requires { ⌜ (decimals ≤ mostDecimals) × (length (now chars) ≤ 6) ⌝ }
+    ensures { λ r. ⌜ r ≡ ofUnsigned minus decimals (now (chars .entry)) ⌝ }
+{
+    let point = point_at(chars);
+    if point < chars.len() {
+        of_parts(minus, decimals, &chars[..point], &chars[point + 1..])
+    } else {
+        of_parts(minus, decimals, chars, &chars[chars.len()..])
+    }
+}
+
+// What the characters say of a value with so many decimals.
+pub fn read(decimals: u8, chars: &[u8]) -> Reading
+    ensures { λ r. ⌜ r ≡ reading 6 decimals (now (chars .entry)) ⌝ }
+{
+    if MOST_DECIMALS < decimals {
+        return Reading::Decimals;
+    }
+    if WIDTH < chars.len() {
+        return Reading::TooLong;
+    }
+    if chars.len() == 0 {
+        return Reading::NoNumber;
+    }
+    if chars[0] == b'-' {
+        of_unsigned(true, decimals as usize, &chars[1..])
+    } else {
+        of_unsigned(false, decimals as usize, chars)
+    }
+}
+
+// The characters of a value, or the number of a refusal and no characters.
+pub struct Written {
+    pub number: u8,
+    pub chars: [u8; 6],
+}
+
+fn refused(number: u8) -> Written
+    ensures { λ r. ⌜ r ≡ refusal 6 number ⌝ }
+{
+    Written {
+        number,
+        chars: [0; 6],
+    }
+}
+
+// The least size that has no room beside the minus and the point.
+fn limit(decimals: u8, minus: bool) -> u32
+    ensures { λ r. ⌜ r ≡ 10 ^ room 6 decimals minus ⌝ }
+{
+    if decimals == 0 {
+        if minus { 100000 } else { 1000000 }
+    } else {
+        if minus { 10000 } else { 100000 }
+    }
+}
+
+// The first character: the minus, or else a digit.
+fn first(minus: bool, digit: u8) -> u8
+    ensures { λ r. ⌜ r ≡ cond minus minusSign digit ⌝ }
+{
+    if minus { b'-' } else { digit }
+}
+
+// The characters of a size that has room. d0 is its last digit, d1 the one before, and so on.
+fn layout(minus: bool, decimals: u8, size: u32) -> [u8; 6]
+    requires { ⌜ decimals ≤ mostDecimals ⌝ }
+    ensures { λ r. ⌜ r ≡ textOf 6 decimals minus size ⌝ }
+{
+    let tens = size / 10;
+    let hundreds = tens / 10;
+    let thousands = hundreds / 10;
+    let d0 = b'0' + (size % 10) as u8;
+    let d1 = b'0' + (tens % 10) as u8;
+    let d2 = b'0' + (hundreds % 10) as u8;
+    let d3 = b'0' + (thousands % 10) as u8;
+    let d4 = b'0' + (thousands / 10 % 10) as u8;
+    let d5 = b'0' + (thousands / 10 / 10 % 10) as u8;
+    match decimals {
+        0 => [first(minus, d5), d4, d3, d2, d1, d0],
+        1 => [first(minus, d4), d3, d2, d1, b'.', d0],
+        2 => [first(minus, d4), d3, d2, b'.', d1, d0],
+        _ => [first(minus, d4), d3, b'.', d2, d1, d0],
+    }
+}
+
+// The value with its decimals in six characters.
+pub fn write(decimals: u8, value: i32) -> Written
+    ensures { λ r. ⌜ r ≡ written 6 decimals value ⌝ }
+{
+    if MOST_DECIMALS < decimals {
+        return refused(TOO_MANY_DECIMALS);
+    }
+    let minus = sign::less(value, 0);
+    let size = sign::size(value);
+    if size < limit(decimals, minus) {
+        let chars = layout(minus, decimals, size);
+        Written {
+            number: NONE,
+            chars,
+        }
+    } else {
+        refused(DOES_NOT_FIT)
+    }
+}
