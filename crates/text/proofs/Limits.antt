@@ -1,18 +1,18 @@
 -- What fits, as document 01 gives it: values between two limits. And where both limits of an item fit, so does each value
 -- between them.
 -- Assumes nothing.
-use mathlib.Core.Path.{_≡_, refl, sym, ap, ap₂, _∙_}
+use mathlib.Core.Path.{_≡_, refl, sym, ap, _∙_}
 use mathlib.Core.Bool.{Bool, true, false, _&&_}
-use Prim.Native.Nat.{ℕ, zero, suc, _+_, _-_, _^_, _<_, _≤_, zero-le}
+use Prim.Native.Nat.{ℕ, zero, suc, _-_, _^_, _≤_, zero-le}
 use native.Mathlib.Nat.{one-le-pow}
 use native.Mathlib.Omega.{arith}
 use borrow.Author.Tests.{ltb-true, leb-true, lt-ltb, le-ltb, le-leb, lt-leb}
 use lib.Dec.{leb, ltb, leb·suc-suc}
-use lib.IntN.{ℤ, pos, negsuc, natAbs}
-use lib.Signed.{ltZ, leZ}
+use lib.IntN.{ℤ, pos, negsuc}
+use lib.Signed.{leZ}
 use Rattle.sign.specs.Sign.{minus}
 use Rattle.sign.proofs.Laws.{contrary}
-use Rattle.text.specs.Writing.{room, points, fits}
+use Rattle.text.specs.Writing.{room, fits}
 
 abbrev pub between : ℤ → ℤ → ℤ → Bool
 between low high v = leZ low v && leZ v high

@@ -2,14 +2,14 @@
 -- size, and the minus stands first or not at all.
 -- Assumes nothing.
 use mathlib.Core.Path.{_≡_, refl, sym, ap, _∙_}
-use mathlib.Core.Bool.{Bool, true, false, _&&_}
+use mathlib.Core.Bool.{Bool, true, false}
 use mathlib.Core.List.{List, [], _∷_, _++_, append-nil}
-use Prim.Native.Nat.{ℕ, zero, suc, _+_, _-_, _*_, _/_, _^_, _<_, _≤_}
+use Prim.Native.Nat.{ℕ, zero, suc, _-_, _^_, _<_, _≤_}
 use native.Mathlib.Nat.{mod-eq-of-lt, mul-div-cancel, one-le-pow}
 use native.Mathlib.Omega.{arith}
 use borrow.Author.Tests.{le-ltb, le-leb, ltb-true, ne-eqb}
 use lib.IntN.{ℤ, pos, natAbs}
-use lib.ListN.{length, getD, take, drop, length-append, length-take, length-drop, take-append-drop, drop-of-length-le}
+use lib.ListN.{length, getD, take, drop, length-take, length-drop, take-append-drop, drop-of-length-le}
 use lib.Seq.{take-at, take-length}
 use lib.Signed.{ltZ}
 use Rattle.sign.specs.Sign.{signed}
@@ -17,8 +17,7 @@ use Rattle.sign.proofs.Laws.{by-sign}
 use Rattle.text.specs.Characters.{minusSign, point, isDigit}
 use Rattle.text.specs.Numbers.{mostDecimals, none}
 use Rattle.text.specs.Reading.{allDigits, numberFrom, pointAt, ofParts, ofUnsigned, ofText, reading}
-use Rattle.text.specs.Writing.{digits, pointed, points, room, signText, textOf, fits, written}
-use Rattle.text.specs.declared.Reading.{Reading}
+use Rattle.text.specs.Writing.{digits, pointed, room, textOf, fits, written}
 use Rattle.text.specs.declared.Reading.the-variants.{Value}
 use Rattle.text.proofs.Numerals.{both, digit-range, digits-all, digits-length, number-digits, parts-digits}
 use Rattle.text.proofs.Steps.{without-minus}

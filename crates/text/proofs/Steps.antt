@@ -15,9 +15,7 @@ use Rattle.sign.proofs.Laws.{contrary}
 use Rattle.text.specs.Characters.{minusSign, point, zeroDigit, isDigit}
 use Rattle.text.specs.Numbers.{mostDecimals}
 use Rattle.text.specs.Reading.{allDigits, numberFrom, digitsFrom, pointAt, ofParts, ofUnsigned, ofText}
-use Rattle.text.specs.declared.Digits.{Digits}
 use Rattle.text.specs.declared.Digits.the-variants.{Number, Other}
-use Rattle.text.specs.declared.Reading.{Reading}
 use Rattle.text.specs.declared.Reading.the-variants.{Value, NoNumber}
 use Rattle.text.proofs.Numerals.{all-append, number-append, number-below}
 

@@ -3,7 +3,7 @@
 -- Assumes nothing.
 use mathlib.Core.Path.{_≡_, refl, sym, _∙_}
 use mathlib.Core.Bool.{true}
-use Prim.Native.Nat.{ℕ, suc, _≤_, _<_, _+_, _-_, _*_, _^_}
+use Prim.Native.Nat.{_≤_, _<_, _+_, _-_, _^_}
 use native.Mathlib.Numerals.{add-one}
 use native.Mathlib.Nat.{add-suc}
 use native.Mathlib.Omega.{arith}
@@ -15,9 +15,6 @@ use Rattle.text.proofs.Numerals.{at-most, digit-range, one-more}
 use Rattle.text.proofs.Steps.{digit-here, other-here}
 use Rattle.text.proofs.digits_from.Statement.{statement}
 use Rattle.text.proofs.digits_from.Tie as tie
-use Rattle.text.proofs.digits_from.Reads as reads
-use Rattle.text.proofs.digits_from.Lts as lts
-use Rattle.text.proofs.is_digit.Reads as is-digit-reads
 
 abbrev Inv-loop : tie.InvT-loop
 Inv-loop from chars n₀ i₀ n i = (i ≤ length chars) × (n < 10 ^ (6 - length chars + i)) × (digitsFrom n (drop i chars) ≡ digitsFrom from chars)

@@ -11,9 +11,6 @@ use Rattle.text.specs.Writing.{textOf}
 use borrow.Author.Needs.{needs}
 use Rattle.text.proofs.layout.Statement.{statement}
 use Rattle.text.proofs.layout.Tie as tie
-use Rattle.text.proofs.layout.Reads as reads
-use Rattle.text.proofs.layout.Lts as lts
-use Rattle.text.proofs.first.Reads as first-reads
 
 cast-d0 : tie.Need-cast-d0
 cast-d0 c = search needs

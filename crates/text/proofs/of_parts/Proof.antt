@@ -1,13 +1,11 @@
 -- `text::of_parts` meets its contract: the two runs of digits are one number of at most six digits, so its product and its
 -- quotient are those of the definition.
 -- Assumes nothing.
-use mathlib.Core.Path.{_≡_, sym, ap, ap₂, _∙_}
-use Prim.Native.Nat.{ℕ, _+_, _-_, _*_, _/_, _^_, _<_, _≤_}
-use native.Mathlib.Nat.{zero-add, one-le-pow}
+use mathlib.Core.Path.{_≡_, sym, ap, _∙_}
+use Prim.Native.Nat.{_+_, _-_, _*_, _/_, _^_, _<_}
+use native.Mathlib.Nat.{one-le-pow}
 use native.Mathlib.Omega.{arith}
-use lib.IntN.{ℤ}
 use lib.ListN.{length}
-use Rattle.sign.specs.Sign.{signed}
 use Rattle.sign.proofs.Laws.{make-of, same}
 use Rattle.text.specs.Reading.{digitsFrom}
 use Rattle.text.specs.declared.Digits.the-variants.{Number}
@@ -17,11 +15,6 @@ use Rattle.text.proofs.Steps.{digits-say, found-below, no-digits, no-fr
 use borrow.Author.Needs.{needs}
 use Rattle.text.proofs.of_parts.Statement.{statement}
 use Rattle.text.proofs.of_parts.Tie as tie
-use Rattle.text.proofs.of_parts.Reads as reads
-use Rattle.text.proofs.of_parts.Lts as lts
-use Rattle.sign.proofs.make.Reads as make-reads
-use Rattle.text.proofs.digits_from.Reads as digits-from-reads
-use Rattle.text.proofs.power.Reads as power-reads
 
 digits-from-requires : tie.Need-digits-from-requires
 digits-from-requires c κs = let s = c .before .before in (omega (arith, s .pre .1), one-le-pow (6 - length (s .args .whole .now)) 10 (omega arith))

@@ -1,7 +1,7 @@
 -- `text::of_unsigned` meets its contract: the slices on either side of the point are the definition's parts, and where there is
 -- no point the part after it is empty.
 -- Assumes nothing.
-use mathlib.Core.Path.{_≡_, sym, _∙_}
+use mathlib.Core.Path.{sym, _∙_}
 use Prim.Native.Nat.{suc, _+_, _≤_}
 use native.Mathlib.Numerals.{add-one}
 use native.Mathlib.Omega.{arith}
@@ -12,10 +12,6 @@ use Rattle.text.proofs.Steps.{rest}
 use borrow.Author.Needs.{needs}
 use Rattle.text.proofs.of_unsigned.Statement.{statement}
 use Rattle.text.proofs.of_unsigned.Tie as tie
-use Rattle.text.proofs.of_unsigned.Reads as reads
-use Rattle.text.proofs.of_unsigned.Lts as lts
-use Rattle.text.proofs.of_parts.Reads as of-parts-reads
-use Rattle.text.proofs.point_at.Reads as point-at-reads
 
 point-at-requires : tie.Need-point-at-requires
 point-at-requires c κs = search needs

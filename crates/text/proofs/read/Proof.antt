@@ -1,6 +1,6 @@
 -- `text::read` meets its contract: each test of the code is one of the definition's, and the first character is the sign or not.
 -- Assumes nothing.
-use mathlib.Core.Path.{_≡_, ap, _∙_}
+use mathlib.Core.Path.{ap, _∙_}
 use mathlib.Core.Bool.{true}
 use native.Mathlib.Omega.{arith}
 use borrow.Author.Tests.{lt-ltb, le-ltb}
@@ -11,9 +11,6 @@ use Rattle.text.proofs.Steps.{empty, rest, with-minus, without-minus}
 use borrow.Author.Needs.{needs}
 use Rattle.text.proofs.read.Statement.{statement}
 use Rattle.text.proofs.read.Tie as tie
-use Rattle.text.proofs.read.Reads as reads
-use Rattle.text.proofs.read.Lts as lts
-use Rattle.text.proofs.of_unsigned.Reads as of-unsigned-reads
 
 returns : tie.Need-returns
 returns c = rw (lt-ltb mostDecimals (c .before .before .args .decimals) (c .if1 .taken))

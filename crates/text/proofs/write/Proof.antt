@@ -16,13 +16,6 @@ use Rattle.text.specs.declared.Written.{Written}
 use borrow.Author.Needs.{needs}
 use Rattle.text.proofs.write.Statement.{statement}
 use Rattle.text.proofs.write.Tie as tie
-use Rattle.text.proofs.write.Reads as reads
-use Rattle.text.proofs.write.Lts as lts
-use Rattle.sign.proofs.less.Reads as less-reads
-use Rattle.sign.proofs.size.Reads as size-reads
-use Rattle.text.proofs.layout.Reads as layout-reads
-use Rattle.text.proofs.limit.Reads as limit-reads
-use Rattle.text.proofs.refused.Reads as refused-reads
 
 abbrev filled : List ℕ → Written
 filled cs = record { number = none; chars = cs }

@@ -9,8 +9,6 @@ use Rattle.text.proofs.Refusals.{no-value}
 use borrow.Author.Needs.{needs}
 use Rattle.text.proofs.Reading.value.Statement.{statement}
 use Rattle.text.proofs.Reading.value.Tie as tie
-use Rattle.text.proofs.Reading.value.Reads as reads
-use Rattle.text.proofs.Reading.value.Lts as lts
 
 enum-known-self : tie.Need-enum-known-self
 enum-known-self c = search needs
