@@ -36,6 +36,7 @@ le-minus zero n = lt-leb (suc n) 0 (omega arith)
 le-minus (suc k) n = leb·suc-suc n k
 
 pub fits-between : (width d : ℕ) (v : ℤ) → fits width d v ≡ between (minus (10 ^ room width d true - 1)) (pos (10 ^ room width d false - 1)) v
+unfolding fits
 fits-between width d (pos n) =
     rw (le-ltb n 0 zero-le, minus-le (10 ^ room width d true - 1) n) (nines (room width d false) n)
 fits-between width d (negsuc n) =
@@ -56,6 +57,7 @@ fits-six-pointed (suc d) h v = fits-between 6 (suc d) v
 
 -- the size of a value between two limits is at most that of the limit on its side of zero
 pub between-fits : (width d : ℕ) (low high v : ℤ) → leZ low v ≡ true → leZ v high ≡ true → fits width d low ≡ true → fits width d high ≡ true → fits width d v ≡ true
+unfolding fits
 between-fits width d low (pos m) (pos n) l h fl fh =
     let a = leb-true n m h in
     rw (le-ltb n 0 zero-le) (smaller n m (room width d false) a (rw (le-ltb m 0 zero-le) at fh))

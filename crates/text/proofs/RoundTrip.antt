@@ -17,11 +17,11 @@ use Rattle.sign.proofs.Laws.{by-sign}
 use Rattle.text.specs.Characters.{minusSign, point, isDigit}
 use Rattle.text.specs.Numbers.{mostDecimals, none}
 use Rattle.text.specs.Reading.{allDigits, numberFrom, pointAt, ofParts, ofUnsigned, ofText, reading}
-use Rattle.text.specs.Writing.{digits, pointed, room, textOf, fits, written}
+use Rattle.text.specs.Writing.{digits, pointed, room, textOf, text, fits, written}
 use Rattle.text.specs.declared.Reading.the-variants.{Value}
 use Rattle.text.proofs.Numerals.{both, digit-range, digits-all, digits-length, number-digits, parts-digits}
 use Rattle.text.proofs.Steps.{without-minus}
-use Rattle.text.proofs.Texts.{enough-room, text-length}
+use Rattle.text.proofs.Texts.{enough-room, fitting, text-length}
 
 -- ---- the point is found
 
@@ -101,11 +101,11 @@ module _ (width d size : ℕ) (wide : 6 ≤ width) (few : d ≤ mostDecimals) wh
 -- Demand 2: a value that fits is written, and reading what was written gives that value.
 pub demand-2 : (width d : ℕ) (v : ℤ) → 6 ≤ width → d ≤ 3 → fits width d v ≡ true
     → (written width d v .number ≡ none) × (reading width d (written width d v .chars) ≡ Value v)
+unfolding fits text reading
 demand-2 width d v wide few f =
     let minus = ltZ v (pos 0) in
     let l = text-length width d minus (natAbs v) wide few in
-    rw (le-ltb mostDecimals d few, f) (
+    rw (fitting width d v few f, le-ltb mostDecimals d few, le-ltb width (length (textOf width d minus (natAbs v))) (omega arith)) (
       refl,
-      rw (le-ltb width (length (textOf width d minus (natAbs v))) (omega arith))
-          (text-says width d (natAbs v) wide few minus (ltb-true (natAbs v) (10 ^ room width d minus) f) ∙ ap Value (sym (by-sign v))),
+      text-says width d (natAbs v) wide few minus (ltb-true (natAbs v) (10 ^ room width d minus) f) ∙ ap Value (sym (by-sign v)),
     )

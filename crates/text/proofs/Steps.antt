@@ -9,6 +9,7 @@ use native.Mathlib.Omega.{arith}
 use borrow.Author.Tests.{eq-eqb, ne-eqb, le-leb}
 use lib.Dec.{leb}
 use lib.ListN.{length, getD, take, drop, length-append, length-drop}
+use lib.Pow.{pow-add}
 use lib.Seq.{drop-cons, take-all}
 use Rattle.sign.specs.Sign.{signed}
 use Rattle.sign.proofs.Laws.{contrary}
@@ -51,6 +52,10 @@ number-found n cs m e = number-of (allDigits cs) (numberFrom n cs) m e
 pub found-below : (k n : ℕ) (cs : List ℕ) (m : ℕ) → n < 10 ^ k → digitsFrom n cs ≡ Number m → m < 10 ^ (k + length cs)
 found-below k n cs m h e = let p = number-found n cs m e in rw (p .1) (number-below cs n k (p .0) h)
 
+-- the digits before the point and those after it make one number
+pub number-small : (whole fraction : List ℕ) (front n : ℕ) → digitsFrom 0 whole ≡ Number front → digitsFrom front fraction ≡ Number n → n < 10 ^ (length whole + length fraction)
+number-small whole fraction front n w f = found-below (length whole) front fraction n (rw (zero-add (length whole)) at (found-below 0 0 whole front (omega arith) w)) f
+
 -- ---- what the parts before and after the point say
 
 and-false : (a b : Bool) → b ≡ false → (a && b) ≡ false
@@ -72,23 +77,19 @@ module _ (minus : Bool) (d : ℕ) (whole fraction : List ℕ) where
   no-digits e =
       refused-by (and-false (allDigits (whole ++ fraction)) (leb 1 (length (whole ++ fraction))) (rw (length-append whole fraction, e)))
 
-  module _ (front n : ℕ) (w : digitsFrom 0 whole ≡ Number front) (f : digitsFrom front fraction ≡ Number n) where
-    pub number-small : n < 10 ^ (length whole + length fraction)
-    number-small = found-below (length whole) front fraction n (rw (zero-add (length whole)) at (found-below 0 0 whole front (omega arith) w)) f
+  pub digits-say : (front n : ℕ) → digitsFrom 0 whole ≡ Number front → digitsFrom front fraction ≡ Number n → (length whole + length fraction ≡ 0 → ⊥) → Value (signed minus (n * 10 ^ d / 10 ^ length fraction)) ≡ ofParts minus d whole fraction
+  digits-say front n w f some =
+      let p = number-found 0 whole front w in
+      let q = number-found front fraction n f in
+      let l = length-append whole fraction in
+      rw (all-append whole fraction, p .0, q .0, le-leb 1 (length (whole ++ fraction)) (omega arith), number-append 0 whole fraction, ← (p .1), ← (q .1)) refl
 
-    pub digits-say : (length whole + length fraction ≡ 0 → ⊥) → Value (signed minus (n * 10 ^ d / 10 ^ length fraction)) ≡ ofParts minus d whole fraction
-    digits-say some =
-        let p = number-found 0 whole front w in
-        let q = number-found front fraction n f in
-        let l = length-append whole fraction in
-        rw (all-append whole fraction, p .0, q .0, le-leb 1 (length (whole ++ fraction)) (omega arith), number-append 0 whole fraction, ← (p .1), ← (q .1)) refl
+-- a number of k digits, times at most 1000, and what a quotient leaves of that
+pub scaled : (k n d : ℕ) → n < 10 ^ k → d ≤ mostDecimals → n * 10 ^ d < 10 ^ (k + mostDecimals)
+scaled k n d h few = let p = mul-le-mul-left n (pow-le-pow-right {n = 10} (omega arith) few) in rw (pow-add 10 k mostDecimals) (omega arith)
 
--- at most six digits, times at most 1000, and what a quotient leaves of that
-pub scaled : (n d : ℕ) → n < 10 ^ 6 → d ≤ mostDecimals → n * 10 ^ d < 10 ^ 9
-scaled n d h le = let p = mul-le-mul-left n (pow-le-pow-right {n = 10} (omega arith) le) in omega arith
-
-pub sized : (n d q : ℕ) → n < 10 ^ 6 → d ≤ mostDecimals → n * 10 ^ d / q < 10 ^ 9
-sized n d q h le = let p = div-le-self (n * 10 ^ d) q in let m = scaled n d h le in omega arith
+pub sized : (k n d q : ℕ) → n < 10 ^ k → d ≤ mostDecimals → n * 10 ^ d / q < 10 ^ (k + mostDecimals)
+sized k n d q h few = let p = div-le-self (n * 10 ^ d) q in let m = scaled k n d h few in omega arith
 
 -- ---- parts of the text
 

@@ -5,7 +5,7 @@ use mathlib.Core.Bool.{Bool, true, false, cond}
 use mathlib.Core.List.{List, [], _∷_, _++_}
 use Prim.Native.Nat.{ℕ, zero, suc, _+_, _-_, _<_, _≤_}
 use native.Mathlib.Omega.{arith}
-use borrow.Author.Tests.{ltb-false}
+use borrow.Author.Tests.{ltb-false, lt-ltb, le-ltb}
 use lib.Dec.{ltb}
 use lib.IntN.{ℤ, pos, natAbs}
 use lib.ListN.{length, getD, take, drop, length-append, length-take, length-drop, length-replicate, take-append-drop, replicate}
@@ -13,7 +13,7 @@ use lib.Signed.{ltZ}
 use Rattle.text.specs.Characters.{minusSign, point, isDigit}
 use Rattle.text.specs.Numbers.{mostDecimals, none, doesNotFit, tooManyDecimals}
 use Rattle.text.specs.Reading.{allDigits}
-use Rattle.text.specs.Writing.{digits, pointed, signText, points, room, fits, textOf, refusal, written}
+use Rattle.text.specs.Writing.{digits, pointed, signText, points, room, fits, textOf, text, accepted, refusal, written}
 use Rattle.text.specs.declared.Written.{Written}
 use Rattle.text.proofs.Numerals.{both, digit-range, digits-all, digits-length, parts-digits}
 
@@ -91,24 +91,40 @@ sign-below false = below-none
 -- ---- whatever was written, refusals too
 
 module _ (width d : ℕ) (v : ℤ) where
-  pub by-outcome : (P : Written → Type 0) → P (refusal width tooManyDecimals) → P (refusal width doesNotFit)
-      → (d ≤ mostDecimals → P (record { number = none; chars = textOf width d (ltZ v (pos 0)) (natAbs v) })) → P (written width d v)
-  by-outcome P many wide text = by-tests (ltb mostDecimals d) (fits width d v) refl
+  pub by-outcome : (P : Written → Type 0) → P (refusal width tooManyDecimals) → P (refusal width doesNotFit) → (d ≤ mostDecimals → P (accepted (text width d v))) → P (written width d v)
+  unfolding written
+  by-outcome P many none fit = by-tests (ltb mostDecimals d) (fits width d v) refl
     where
       by-tests : (a b : Bool) → ltb mostDecimals d ≡ a
-          → P (cond a (refusal width tooManyDecimals) (cond b (record { number = none; chars = textOf width d (ltZ v (pos 0)) (natAbs v) }) (refusal width doesNotFit)))
+          → P (cond a (refusal width tooManyDecimals) (cond b (accepted (text width d v)) (refusal width doesNotFit)))
       by-tests true b e = many
-      by-tests false true e = text (ltb-false mostDecimals d e)
-      by-tests false false e = wide
+      by-tests false true e = fit (ltb-false mostDecimals d e)
+      by-tests false false e = none
 
   pub written-length : 6 ≤ width → length (written width d v .chars) ≡ width
+  unfolding text
   written-length wide =
       by-outcome (λ w. length (w .chars) ≡ width) (length-replicate width 0) (length-replicate width 0)
       (λ few. text-length width d (ltZ v (pos 0)) (natAbs v) wide few)
 
   -- they are digits, the minus and the point, or the zeros of a refusal
   pub written-seven-bit : (i : ℕ) → getD (written width d v .chars) i 0 < 128
+  unfolding text
   written-seven-bit =
-      let ds = digits (room width d (ltZ v (pos 0))) (natAbs v) in
+      let minus = ltZ v (pos 0) in
+      let ds = digits (room width d minus) (natAbs v) in
       by-outcome (λ w. Below 128 (w .chars)) (zeros-below width) (zeros-below width)
-      (λ few. below-append (signText (ltZ v (pos 0))) (pointed d ds) (sign-below (ltZ v (pos 0))) (pointed-below d ds (digits-all (room width d (ltZ v (pos 0))) (natAbs v))))
+      (λ few. below-append (signText minus) (pointed d ds) (sign-below minus) (pointed-below d ds (digits-all (room width d minus) (natAbs v))))
+
+  -- each of the three outcomes, by what leads to it
+  pub many-decimals : mostDecimals < d → written width d v ≡ refusal width tooManyDecimals
+  unfolding written
+  many-decimals many = rw (lt-ltb mostDecimals d many)
+
+  pub fitting : d ≤ mostDecimals → fits width d v ≡ true → written width d v ≡ accepted (text width d v)
+  unfolding written
+  fitting few f = rw (le-ltb mostDecimals d few, f)
+
+  pub not-fitting : d ≤ mostDecimals → fits width d v ≡ false → written width d v ≡ refusal width doesNotFit
+  unfolding written
+  not-fitting few f = rw (le-ltb mostDecimals d few, f)

@@ -22,6 +22,7 @@ abbrev pub numberFrom : ℕ → List ℕ → ℕ
 numberFrom n [] = n
 numberFrom n (c ∷ cs) = numberFrom (n * 10 + (c - zeroDigit)) cs
 
+-- the same where all of them are digits
 abbrev pub digitsFrom : ℕ → List ℕ → Digits
 digitsFrom n cs = cond (allDigits cs) (Number (numberFrom n cs)) Other
 
@@ -30,9 +31,9 @@ abbrev pub pointAt : List ℕ → ℕ
 pointAt [] = zero
 pointAt (c ∷ cs) = cond (eqb c point) zero (suc (pointAt cs))
 
--- Digits before and after the point, at least one in all. Read as one number, without the point, they are the written number
--- times 10 for each digit after the point; so that over this, times 10 ^ d, is the value, and the quotient cuts the fraction off.
--- The sign applies to the quotient, so the cut is toward zero, and minus zero is 0.
+-- Digits before and after the point, at least one in all. All of them as one number, over 10 for each that stands after the
+-- point, is the written number; that times 10 ^ d is cut off by one quotient. The sign applies to the quotient, so the cut is
+-- toward zero, and minus zero is 0.
 abbrev pub ofParts : Bool → ℕ → List ℕ → List ℕ → Reading
 ofParts minus d whole fraction =
     cond (allDigits (whole ++ fraction) && leb 1 (length (whole ++ fraction)))
@@ -48,6 +49,6 @@ abbrev pub ofText : ℕ → List ℕ → Reading
 ofText d [] = NoNumber
 ofText d (c ∷ cs) = cond (eqb c minusSign) (ofUnsigned true d cs) (ofUnsigned false d (c ∷ cs))
 
--- the refusals in their order
-abbrev pub reading : ℕ → ℕ → List ℕ → Reading
+-- too many decimals, then too many characters, then no number: the refusals in their order
+unfoldable pub reading : ℕ → ℕ → List ℕ → Reading
 reading width d cs = cond (ltb mostDecimals d) Decimals (cond (ltb width (length cs)) TooLong (ofText d cs))

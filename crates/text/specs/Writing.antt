@@ -35,19 +35,27 @@ room width d minus = width - (length (signText minus) + points d)
 
 -- The size has no more digits than there is room for. In six characters that is -99999 to 999999 for d = 0 and
 -- -9999 to 99999 for d = 1 to 3: `fits-six` and `fits-six-pointed` in proofs/Limits.antt show it.
-abbrev pub fits : ℕ → ℕ → ℤ → Bool
+unfoldable pub fits : ℕ → ℕ → ℤ → Bool
 fits width d v = ltb (natAbs v) (10 ^ room width d (ltZ v (pos 0)))
 
+-- the characters of a sign and a size
 abbrev pub textOf : ℕ → ℕ → Bool → ℕ → List ℕ
 textOf width d minus size = signText minus ++ pointed d (digits (room width d minus) size)
+
+-- the characters of a value that fits
+unfoldable pub text : ℕ → ℕ → ℤ → List ℕ
+text width d v = textOf width d (ltZ v (pos 0)) (natAbs v)
+
+-- characters, and no number
+abbrev pub accepted : List ℕ → Written
+accepted cs = record { number = none; chars = cs }
 
 -- the number of a refusal, and zero bytes for characters
 abbrev pub refusal : ℕ → ℕ → Written
 refusal width number = record { number = number; chars = replicate width 0 }
 
--- the refusals in their order
-abbrev pub written : ℕ → ℕ → ℤ → Written
+-- too many decimals, then no room: the refusals in their order
+unfoldable pub written : ℕ → ℕ → ℤ → Written
 written width d v =
     cond (ltb mostDecimals d) (refusal width tooManyDecimals)
-    (cond (fits width d v) (record { number = none; chars = textOf width d (ltZ v (pos 0)) (natAbs v) })
-    (refusal width doesNotFit))
+    (cond (fits width d v) (accepted (text width d v)) (refusal width doesNotFit))

@@ -25,7 +25,8 @@ pub const OVER_SIX_CHARACTERS: u8 = 15;
 
 pub const NO_NUMBER: u8 = 16;
 
-// What the characters of a number say: its value, or why they have none.
+// What the characters of a number say: its value, or why they have none. Decimals: over three of them were asked for.
+// TooLong: over six characters.
 pub enum Reading {
     Value(i32),
     Decimals,
@@ -205,12 +206,13 @@ fn layout(minus: bool, decimals: u8, size: u32) -> [u8; 6]
     let tens = size / 10;
     let hundreds = tens / 10;
     let thousands = hundreds / 10;
+    let ten_thousands = thousands / 10;
     let d0 = b'0' + (size % 10) as u8;
     let d1 = b'0' + (tens % 10) as u8;
     let d2 = b'0' + (hundreds % 10) as u8;
     let d3 = b'0' + (thousands % 10) as u8;
-    let d4 = b'0' + (thousands / 10 % 10) as u8;
-    let d5 = b'0' + (thousands / 10 / 10 % 10) as u8;
+    let d4 = b'0' + (ten_thousands % 10) as u8;
+    let d5 = b'0' + (ten_thousands / 10 % 10) as u8;
     match decimals {
         0 => [first(minus, d5), d4, d3, d2, d1, d0],
         1 => [first(minus, d4), d3, d2, d1, b'.', d0],

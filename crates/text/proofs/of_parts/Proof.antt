@@ -61,7 +61,7 @@ six c =
     let whole = s .args .whole .now in
     let fraction = s .args .fraction .now in
     at-most (c .n .given .0 .0) (length whole + length fraction) 6
-    (number-small (s .args .minus) (s .args .decimals) whole fraction (c .before .before .before .before .front .given .0 .0) (c .n .given .0 .0) (front (c .before .before .before .before)) (all c))
+    (number-small whole fraction (c .before .before .before .before .front .given .0 .0) (c .n .given .0 .0) (front (c .before .before .before .before)) (all c))
     (s .pre .1)
 
 add-if1 : tie.Need-add-if1
@@ -78,7 +78,7 @@ power-requires c κs = search needs
 mul-size : tie.Need-mul-size
 mul-size c =
     let s = c .before .before .before .before .before .before .before .before .before .before .before .before in
-    rw (c .power .ensures) (omega (arith, scaled (c .before .before .before .n .given .0 .0) (s .args .decimals) (six (c .before .before .before)) (s .pre .0)))
+    rw (c .power .ensures) (omega (arith, scaled 6 (c .before .before .before .n .given .0 .0) (s .args .decimals) (six (c .before .before .before)) (s .pre .0)))
 
 power-requires-2 : tie.Need-power-requires-2
 power-requires-2 c κs = search needs
@@ -96,7 +96,7 @@ returns-4 c =
     let p = c .before .before .power .ensures in
     let q = c .before .power2 .ensures in
     let size = n .n .given .0 .0 * 10 ^ s .args .decimals / 10 ^ length (s .args .fraction .now) in
-    let small = sized (n .n .given .0 .0) (s .args .decimals) (10 ^ length (s .args .fraction .now)) (six n) (s .pre .0) in
+    let small = sized 6 (n .n .given .0 .0) (s .args .decimals) (10 ^ length (s .args .fraction .now)) (six n) (s .pre .0) in
     ap Value (same (c .make .result) (c .make .ok) ∙ make-of (s .args .minus) size (c .make .result) (omega arith) (rw (p, q) at (c .make .ensures)))
     ∙ digits-say (s .args .minus) (s .args .decimals) (s .args .whole .now) (s .args .fraction .now) (n .before .before .before .before .front .given .0 .0) (n .n .given .0 .0) (front (n .before .before .before .before)) (all n) (c .before .before .before .if1 .left)
 

@@ -6,21 +6,24 @@ use native.Mathlib.Omega.{arith}
 use borrow.Author.Tests.{lt-ltb, le-ltb}
 use lib.ListN.{length}
 use Rattle.text.specs.Numbers.{mostDecimals}
-use Rattle.text.specs.Reading.{ofUnsigned}
+use Rattle.text.specs.Reading.{ofUnsigned, reading}
 use Rattle.text.proofs.Steps.{empty, rest, with-minus, without-minus}
 use borrow.Author.Needs.{needs}
 use Rattle.text.proofs.read.Statement.{statement}
 use Rattle.text.proofs.read.Tie as tie
 
 returns : tie.Need-returns
+unfolding reading
 returns c = rw (lt-ltb mostDecimals (c .before .before .args .decimals) (c .if1 .taken))
 
 returns-2 : tie.Need-returns-2
+unfolding reading
 returns-2 c =
     let s = c .before .before .before .args in
     rw (le-ltb mostDecimals (s .decimals) (c .before .if1 .left), lt-ltb 6 (length (s .chars .now)) (c .if2 .taken))
 
 returns-3 : tie.Need-returns-3
+unfolding reading
 returns-3 c =
     let s = c .before .before .before .before .args in
     rw (le-ltb mostDecimals (s .decimals) (c .before .before .if1 .left), empty (s .chars .now) (c .if3 .taken))
@@ -44,6 +47,7 @@ of-unsigned-requires-2 : tie.Need-of-unsigned-requires-2
 of-unsigned-requires-2 c κs = search needs
 
 returns-4 : tie.Need-returns-4
+unfolding reading
 returns-4 c =
     let t = c .before .before .before .before .before in
     let s = t .before .before .before .args in
@@ -52,6 +56,7 @@ returns-4 c =
     (c .of-unsigned .ensures ∙ ap (ofUnsigned true (s .decimals)) (rest chars 1) ∙ with-minus (s .decimals) chars (omega arith) (c .before .before .if4 .taken))
 
 returns-5 : tie.Need-returns-5
+unfolding reading
 returns-5 c =
     let t = c .before .before .before .before in
     let s = t .before .before .before .args in

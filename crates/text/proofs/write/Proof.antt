@@ -1,30 +1,27 @@
--- `text::write` meets its contract: what the calls tell of sign, size and limit makes the definition's tests come out as the
--- code's did.
+-- `text::write` meets its contract: what the calls tell of sign, size and limit makes the definition's tests come out as the code's
+-- did.
 -- Assumes nothing.
-use mathlib.Core.Path.{_≡_, ap, _∙_}
+use mathlib.Core.Path.{_≡_, sym, ap, _∙_}
 use mathlib.Core.Bool.{Bool}
-use mathlib.Core.List.{List}
-use Prim.Native.Nat.{ℕ, _^_}
+use Prim.Native.Nat.{_^_}
 use native.Mathlib.Omega.{arith}
 use borrow.Author.Tests.{lt-ltb, le-ltb}
 use lib.IntN.{pos, natAbs}
 use lib.Signed.{ltZ}
 use Rattle.sign.proofs.Laws.{less-of, size-of}
-use Rattle.text.specs.Numbers.{mostDecimals, none}
-use Rattle.text.specs.Writing.{room}
-use Rattle.text.specs.declared.Written.{Written}
+use Rattle.text.specs.Writing.{accepted, fits, room, text}
 use borrow.Author.Needs.{needs}
+use Rattle.text.proofs.Texts.{fitting, many-decimals, not-fitting}
 use Rattle.text.proofs.write.Statement.{statement}
 use Rattle.text.proofs.write.Tie as tie
-
-abbrev filled : List ℕ → Written
-filled cs = record { number = none; chars = cs }
 
 refused-requires : tie.Need-refused-requires
 refused-requires c κs = search needs
 
 returns : tie.Need-returns
-returns c = rw (lt-ltb mostDecimals (c .before .before .args .decimals) (c .before .if1 .taken)) (c .refused .ensures)
+returns c =
+    let s = c .before .before .args in
+    c .refused .ensures ∙ sym (many-decimals 6 (s .decimals) (s .value) (c .before .if1 .taken))
 
 less-requires : tie.Need-less-requires
 less-requires c κs = search needs
@@ -52,20 +49,22 @@ found c =
     (m, size-of (s .args .value) (s .fits .value .sfits) (c .before .size .ensures), c .limit .ensures ∙ ap (λ (b : Bool). 10 ^ room 6 (s .args .decimals) b) m)
 
 returns-2 : tie.Need-returns-2
+unfolding fits text
 returns-2 c =
     let l = c .before .before in
+    let s = l .before .before .before .before .args in
     let f = found l in
-    let s = l .before .before .before .before in
-    rw (le-ltb mostDecimals (s .args .decimals) (l .before .before .before .if1 .left), lt-ltb (natAbs (s .args .value)) (10 ^ room 6 (s .args .decimals) (ltZ (s .args .value) (pos 0))) (rw (f .1, f .2) at (c .before .if2 .taken)))
-    (ap filled (c .layout .ensures ∙ rw (f .0, f .1)))
+    let fit = lt-ltb (natAbs (s .value)) (10 ^ room 6 (s .decimals) (ltZ (s .value) (pos 0))) (rw (f .1, f .2) at (c .before .if2 .taken)) in
+    ap accepted (c .layout .ensures ∙ rw (f .0, f .1)) ∙ sym (fitting 6 (s .decimals) (s .value) (l .before .before .before .if1 .left) fit)
 
 returns-3 : tie.Need-returns-3
+unfolding fits
 returns-3 c =
     let l = c .before .before in
+    let s = l .before .before .before .before .args in
     let f = found l in
-    let s = l .before .before .before .before in
-    rw (le-ltb mostDecimals (s .args .decimals) (l .before .before .before .if1 .left), le-ltb (natAbs (s .args .value)) (10 ^ room 6 (s .args .decimals) (ltZ (s .args .value) (pos 0))) (rw (f .1, f .2) at (c .before .if2 .left)))
-    (c .refused2 .ensures)
+    let unfit = le-ltb (natAbs (s .value)) (10 ^ room 6 (s .decimals) (ltZ (s .value) (pos 0))) (rw (f .1, f .2) at (c .before .if2 .left)) in
+    c .refused2 .ensures ∙ sym (not-fitting 6 (s .decimals) (s .value) (l .before .before .before .if1 .left) unfit)
 
 pub write-spec : {M : Type 1} → statement M
 write-spec =
