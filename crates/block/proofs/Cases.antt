@@ -1,0 +1,89 @@
+-- What a verdict is in each case: a law for each test on the way to it.
+-- Assumes nothing.
+use mathlib.Core.Path.{_≡_, refl, sym, ap, _∙_}
+use mathlib.Core.Bool.{Bool, true, false, cond, _||_}
+use mathlib.Core.List.{List, [], _∷_}
+use Prim.Native.Nat.{ℕ, _+_, _-_, _<_, _≤_}
+use native.Mathlib.Omega.{arith}
+use denote.Enum.Declared.{tagOf}
+use types.Run.{OneOf}
+use borrow.Author.Tests.{lt-ltb, le-ltb, eq-eqb, ne-eqb}
+use lib.IntN.{ℤ}
+use lib.ListN.{length, getD, take, drop}
+use lib.Seq.{length-take-le, take-add, drop-at}
+use Rattle.line.specs.Line.{isLineError}
+use Rattle.items.specs.ItemList.{itemAt, found}
+use Rattle.items.specs.Table.{inRange}
+use Rattle.items.specs.declared.Item.{Item}
+use Rattle.text.specs.Numbers.{numberOf}
+use Rattle.text.specs.Reading.{reading}
+use Rattle.text.specs.declared.Reading.{Reading}
+use Rattle.text.specs.declared.Reading.the-variants.{Value, TooLong}
+use Rattle.text.proofs.Reading.{the-type}
+use Rattle.text.proofs.Refusals.{no-value}
+use Rattle.block.specs.Block.{lineError, wrongBcc, underTwo, readOnly, outOfRange, identifier, width, mostKept, dataCharacters, readData, valueFor, forItem, forFound, verdict}
+use Rattle.block.specs.declared.Verdict.the-variants.{Store, Refuse}
+
+-- ---- before the item is known
+
+module _ (mark : Bool) (bcc count : ℕ) (kept : List ℕ) (c : ℕ) where
+  pub line-error : (mark || isLineError c) ≡ true → Refuse lineError ≡ verdict mark bcc count kept c
+  unfolding verdict
+  line-error h = rw h
+
+  module _ (heard : (mark || isLineError c) ≡ false) where
+    pub wrong-bcc : (c ≡ bcc → ⊥) → Refuse wrongBcc ≡ verdict mark bcc count kept c
+    unfolding verdict
+    wrong-bcc h = rw (heard, ne-eqb c bcc h)
+
+    pub under-two : c ≡ bcc → count < identifier → Refuse underTwo ≡ verdict mark bcc count kept c
+    unfolding verdict
+    under-two e h = rw (heard, eq-eqb c bcc e, lt-ltb count identifier h)
+
+    pub by-identifier : c ≡ bcc → identifier ≤ count
+        → forFound (found (getD kept 0 0) (getD kept 1 0)) count kept ≡ verdict mark bcc count kept c
+    unfolding verdict
+    by-identifier e h = rw (heard, eq-eqb c bcc e, le-ltb count identifier h)
+
+-- ---- the data characters
+
+-- what is kept past the identifier, as many as the count has more
+pub data-part : (count : ℕ) (kept : List ℕ) → identifier ≤ count → identifier ≤ length kept
+    → take (count - identifier) (drop identifier kept) ≡ dataCharacters count kept
+data-part count kept h k =
+    let more = count - identifier in
+    let e : identifier + more ≡ count = omega arith in
+    sym (drop-at (take identifier kept) (take more (drop identifier kept)) identifier (length-take-le identifier kept k))
+    ∙ ap (drop identifier) (sym (take-add identifier more kept) ∙ ap (λ (n : ℕ). take n kept) e)
+
+module _ (d count : ℕ) (kept : List ℕ) where
+  pub too-long : mostKept < count → TooLong ≡ readData d count kept
+  too-long h = rw (lt-ltb mostKept count h)
+
+  pub all-kept : count ≤ mostKept → reading width d (dataCharacters count kept) ≡ readData d count kept
+  all-kept h = rw (le-ltb mostKept count h)
+
+-- ---- a number for an item, from the item's line and what was read
+
+module _ (i count : ℕ) (kept : List ℕ) {item : Item} {read : Reading}
+    (at : item ≡ itemAt i) (said : read ≡ readData (item .decimals) count kept) where
+  by-reading : valueFor i read ≡ forItem i count kept
+  by-reading = ap (valueFor i) (said ∙ ap (λ (x : Item). readData (x .decimals) count kept) at)
+
+  -- where no value was read
+  pub refused : OneOf (1 ∷ 2 ∷ 3 ∷ []) (tagOf the-type read) → Refuse (numberOf read) ≡ forItem i count kept
+  refused o = no-value (λ (r : Reading). Refuse (numberOf r) ≡ valueFor i r) read o refl refl refl ∙ by-reading
+
+  module _ (v : ℤ) (e : read ≡ Value v) where
+    value : valueFor i (Value v) ≡ forItem i count kept
+    value = ap (valueFor i) (sym e) ∙ by-reading
+
+    kind : {b : Bool} → item .writable ≡ b → itemAt i .writable ≡ b
+    kind w = sym (ap (λ (x : Item). x .writable) at) ∙ w
+
+    -- where a value was read: by the item's kind, then by its range
+    pub of-value : (w r : Bool) → item .writable ≡ w → inRange i v ≡ r
+        → cond w (cond r (Store i v) (Refuse outOfRange)) (Refuse readOnly) ≡ forItem i count kept
+    of-value true true p q = rw (← value, kind p, q)
+    of-value true false p q = rw (← value, kind p, q)
+    of-value false r p q = rw (← value, kind p)
