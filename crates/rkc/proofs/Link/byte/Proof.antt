@@ -1,0 +1,68 @@
+-- `Link::byte` meets its contract: a fault hands everything back, else what was asked for is performed. Assumes nothing.
+use borrow.Author.Needs.{needs}
+use mathlib.Core.Path.{refl, sym, _∙_}
+use mathlib.Core.Bool.{Bool}
+use lib.ListN.{length}
+use Rattle.rkc.proofs.Cases.{leads-by, byte-none, call-none, received-fault, received-fine}
+use Rattle.rkc.proofs.Limits.{asked-limited}
+use Rattle.rkc.proofs.Link.byte.Statement.{statement}
+use Rattle.rkc.proofs.Link.byte.Tie as tie
+
+byte-fault-requires : tie.Need-byte-fault-requires
+byte-fault-requires c κs = search needs
+
+same-length : tie.Need-same-length
+same-length c = search needs
+
+returns : tie.Need-returns
+returns c =
+    leads-by (received-fault _ _ _ _ _ _ _ (c .before .byte-fault .ensures) (c .if1 .taken))
+    (record { steps = record { back = refl; sent = refl }; left = refl })
+
+used-requires : tie.Need-used-requires
+used-requires c κs = search needs
+
+heard-requires : tie.Need-heard-requires
+heard-requires c κs = search needs
+
+array-read-decide : tie.Need-array-read-decide
+array-read-decide c = search needs
+
+array-read-decide-2 : tie.Need-array-read-decide-2
+array-read-decide-2 c = search needs
+
+decide-requires : tie.Need-decide-requires
+decide-requires c κs = search needs
+
+perform-requires : tie.Need-perform-requires
+perform-requires c κs =
+    let fine = call-none _ _ _ (byte-none _ _ _ _ _ (sym (c .before .before .before .before .before .before .before .byte-fault .ensures) ∙ c .before .before .before .before .before .before .if1 .left) .1) in
+    (fine .0, rw (c .before .before .decide .ensures, c .before .before .before .before .before .used .ensures) (asked-limited _ (fine .2) _ _))
+
+same-length-2 : tie.Need-same-length-2
+same-length-2 c = search needs
+
+same-length-3 : tie.Need-same-length-3
+same-length-3 c = search needs
+
+returns-2 : tie.Need-returns-2
+returns-2 c =
+    leads-by (received-fine _ _ _ _ _ _ _ (c .before .before .before .before .before .before .before .before .before .before .before .byte-fault .ensures) (c .before .before .before .before .before .before .before .before .before .before .if1 .left) (c .before .before .before .before .before .before .before .before .before .used .ensures) (c .before .before .before .before .before .before .before .heard .ensures) (c .before .before .before .before .before .before .decide .ensures))
+    (c .before .before .before .perform .ensures)
+
+pub byte-spec : {M : Type 1} → statement M
+byte-spec =
+    tie.close
+    (tie.spec
+    byte-fault-requires
+    same-length
+    returns
+    used-requires
+    heard-requires
+    array-read-decide
+    array-read-decide-2
+    decide-requires
+    perform-requires
+    same-length-2
+    same-length-3
+    returns-2)

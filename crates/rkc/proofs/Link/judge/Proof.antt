@@ -1,0 +1,77 @@
+-- `Link::judge` meets its contract: ACK with the item stored, or NAK. Assumes nothing.
+use borrow.Author.Needs.{needs}
+use mathlib.Core.Path.{_≡_, refl, sym, ap, _∙_}
+use Rattle.items.specs.Table.{stored}
+use Rattle.rkc.specs.Outcome.{judged}
+use Rattle.rkc.proofs.Cases.{leads-by}
+use Rattle.rkc.proofs.Link.judge.Statement.{statement}
+use Rattle.rkc.proofs.Link.judge.Tie as tie
+
+judge-requires : tie.Need-judge-requires
+judge-requires c κs = search needs
+
+enum-known-i : tie.Need-enum-known-i
+enum-known-i c = search needs
+
+store-requires : tie.Need-store-requires
+store-requires c κs = search needs
+
+in-phase-requires : tie.Need-in-phase-requires
+in-phase-requires c κs = search needs
+
+send-one-requires : tie.Need-send-one-requires
+send-one-requires c κs = search needs
+
+enum-known-number : tie.Need-enum-known-number
+enum-known-number c = search needs
+
+in-phase-requires-2 : tie.Need-in-phase-requires-2
+in-phase-requires-2 c κs = search needs
+
+send-one-requires-2 : tie.Need-send-one-requires-2
+send-one-requires-2 c κs = search needs
+
+same-length : tie.Need-same-length
+same-length c = search needs
+
+same-length-2 : tie.Need-same-length-2
+same-length-2 c = search needs
+
+returns : tie.Need-returns
+returns c =
+    let s = c .before .before .before .before .before .before .before .before .before .before .before .before .before .before .args in
+    leads-by (ap (judged (s .structure) (s .table .now)) (sym (c .before .before .before .before .before .before .before .before .before .before .before .judge .ensures) ∙ c .before .before .before .before .before .before .before .before .before .i .given .1))
+    (record {
+      steps = record { back = c .before .before .send-one .ensures .back ∙ rw (c .before .before .before .in-phase .ensures); sent = c .before .before .send-one .ensures .sent };
+      left = c .before .before .before .before .before .before .store .ensures ∙ ap (stored (s .table .now) (c .before .before .before .before .before .before .before .before .before .i .given .0 .0)) (search needs);
+    })
+
+same-length-3 : tie.Need-same-length-3
+same-length-3 c = search needs
+
+returns-2 : tie.Need-returns-2
+returns-2 c =
+    let s = c .before .before .before .before .before .before .before .before .before .before .before .args in
+    leads-by (ap (judged (s .structure) (s .table .now)) (sym (c .before .before .before .before .before .before .before .before .judge .ensures) ∙ c .before .before .before .before .before .before .number .given .1))
+    (record {
+      steps = record { back = c .before .before .send-one2 .ensures .back ∙ rw (c .before .before .before .in-phase2 .ensures); sent = c .before .before .send-one2 .ensures .sent };
+      left = refl;
+    })
+
+pub judge-spec : {M : Type 1} → statement M
+judge-spec =
+    tie.close
+    (tie.spec
+    judge-requires
+    enum-known-i
+    store-requires
+    in-phase-requires
+    send-one-requires
+    enum-known-number
+    in-phase-requires-2
+    send-one-requires-2
+    same-length
+    same-length-2
+    returns
+    same-length-3
+    returns-2)

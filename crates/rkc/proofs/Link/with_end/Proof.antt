@@ -1,0 +1,15 @@
+-- `Link::with_end` meets its contract. Assumes nothing.
+use borrow.Author.Needs.{needs}
+use Rattle.rkc.specs.State.{withEnd}
+use Rattle.rkc.proofs.Link.with_end.Statement.{statement}
+use Rattle.rkc.proofs.Link.with_end.Tie as tie
+
+block-requires : tie.Need-block-requires
+block-requires c κs = search needs
+
+returns : tie.Need-returns
+unfolding withEnd
+returns c = c .block .ensures
+
+pub with-end-spec : {M : Type 1} → statement M
+with-end-spec = tie.close (tie.spec block-requires returns)

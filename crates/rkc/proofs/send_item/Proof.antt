@@ -1,0 +1,91 @@
+-- `rkc::send_item` meets its contract: the number text fits six characters, or EOT is sent. Assumes nothing.
+use borrow.Author.Needs.{needs}
+use mathlib.Core.Path.{_≡_, ap₂, _∙_}
+use lib.ListN.{length-map}
+use Rattle.sign.proofs.Laws.{same}
+use Rattle.items.specs.declared.Item.{Item}
+use Rattle.items.specs.ItemList.{itemAt}
+use Rattle.items.specs.Table.{answered}
+use Rattle.text.specs.Writing.{written}
+use Rattle.rkc.proofs.Cases.{steps-by, item-fits, item-too-long}
+use Rattle.rkc.proofs.send_item.Statement.{statement}
+use Rattle.rkc.proofs.send_item.Tie as tie
+
+item-at-requires : tie.Need-item-at-requires
+item-at-requires c κs = search needs
+
+answer-requires : tie.Need-answer-requires
+answer-requires c κs = search needs
+
+write-requires : tie.Need-write-requires
+write-requires c κs = search needs
+
+data-reply-requires : tie.Need-data-reply-requires
+data-reply-requires c κs = search needs
+
+slice-aggregate-put : tie.Need-slice-aggregate-put
+slice-aggregate-put c = search needs
+
+put-requires : tie.Need-put-requires
+put-requires c κs = search needs
+
+add-waiting-on : tie.Need-add-waiting-on
+add-waiting-on c = search needs
+
+cast-waiting-on : tie.Need-cast-waiting-on
+cast-waiting-on c = search needs
+
+waiting-on-requires : tie.Need-waiting-on-requires
+waiting-on-requires c κs = search needs
+
+quit-requires : tie.Need-quit-requires
+quit-requires c κs = search needs
+
+same-length : tie.Need-same-length
+same-length c = search needs
+
+-- the number text is that of the answer at the item's decimals
+text-is : (c : tie.After-write) →
+    let s = c .before .before .before .before in
+    c .write .result ≡ written 6 (itemAt (s .args .i) .decimals) (answered (s .args .table .now) (s .args .i))
+text-is c =
+    let item = c .before .before .item-at in
+    let value = c .before .answer in
+    c .write .ensures
+    ∙ rw (item .ensures, same (value .result) (value .ok) ∙ value .ensures)
+
+returns : tie.Need-returns
+returns c =
+    let w = c .before .before .before .before .before .before .before .before .before .before in
+    steps-by (item-fits _ _ _ _ (w .write .result) (text-is w) (c .before .before .before .before .before .before .before .if1 .taken))
+    (record {
+      back = simp (c .waiting-on .ensures, c .before .before .before .put .ensures .0, c .before .before .before .before .before .before .data-reply .ensures, length-map);
+      sent = c .before .before .before .put .ensures .1 ∙ rw (c .before .before .before .before .before .before .data-reply .ensures);
+    })
+
+same-length-2 : tie.Need-same-length-2
+same-length-2 c = search needs
+
+returns-2 : tie.Need-returns-2
+returns-2 c =
+    let w = c .before .before .before .before .before .before .before in
+    steps-by (item-too-long _ _ _ _ (w .write .result) (text-is w) (c .before .before .before .before .if1 .left)) (c .before .before .quit .ensures)
+
+pub send-item-spec : {M : Type 1} → statement M
+send-item-spec =
+    tie.close
+    (tie.spec
+    item-at-requires
+    answer-requires
+    write-requires
+    data-reply-requires
+    slice-aggregate-put
+    put-requires
+    add-waiting-on
+    cast-waiting-on
+    waiting-on-requires
+    quit-requires
+    same-length
+    returns
+    same-length-2
+    returns-2)

@@ -1,0 +1,183 @@
+-- What one received byte and one idle call lead to.
+use mathlib.Core.Bool.{Bool, true, false, cond, _&&_}
+use mathlib.Core.List.{List, [], _∷_, _++_, map}
+use Prim.Native.Nat.{ℕ, _+_, _-_, _%_, _^_}
+use lib.Dec.{leb, ltb, eqb}
+use lib.IntN.{ℤ}
+use lib.ListN.{getD, length}
+use Rattle.items.specs.declared.Found.{Found}
+use Rattle.items.specs.declared.Found.the-variants.{At, Nothing}
+use Rattle.items.specs.ItemList.{itemAt, found}
+use Rattle.items.specs.Table.{none, tableFault, answered, stored}
+use Rattle.line.specs.Line.{STX, ETX, EOT, ACK, NAK, sent, heard, bcc}
+use Rattle.text.specs.declared.Written.{Written}
+use Rattle.text.specs.Writing.{written}
+use Rattle.phases.specs.Phases as phases
+use Rattle.phases.specs.Phases.{rest, waiting, unknownPolled}
+use Rattle.phases.specs.Decision.{decided}
+use Rattle.phases.specs.declared.Act.{Act}
+use Rattle.phases.specs.declared.Act.the-variants.{Go, First, Both, More, Ended, Quit, Poll, Send, Judge}
+use Rattle.block.specs.Block.{verdict}
+use Rattle.block.specs.declared.Verdict.{Verdict}
+use Rattle.block.specs.declared.Verdict.the-variants.{Store, Refuse}
+use Rattle.rkc.specs.declared.Link.{Link}
+use Rattle.rkc.specs.State.{inPhase, holdingOne, holdingTwo, waitingOn, used, inLimits, withMore, withEnd}
+
+-- numbers given back
+abbrev pub shortBuffer : ℕ
+shortBuffer = 3
+
+abbrev pub badSetting : ℕ
+badSetting = 4
+
+abbrev pub badState : ℕ
+badState = 5
+
+abbrev pub timedOut : ℕ
+timedOut = 44
+
+abbrev pub noRoom : ℕ
+noRoom = 46
+
+-- the state and the number handed back, and the bytes sent
+pub record Step : Type 0 where
+  pub link : Link
+  pub number : ℕ
+  pub reply : List ℕ
+
+-- the same with the table
+pub record Outcome : Type 0 where
+  pub step : Step
+  pub table : List ℤ
+
+-- nothing is sent
+abbrev pub silent : Link → Step
+silent l = record { link = l; number = none; reply = [] }
+
+-- one character is sent, in the line's structure
+abbrev pub sends : ℕ → ℕ → Link → ℕ → Step
+sends structure c l number = record { link = l; number = number; reply = sent structure c ∷ [] }
+
+-- EOT with a number, and rest
+abbrev pub quit : ℕ → ℕ → Step
+quit structure number = sends structure EOT (inPhase rest) number
+
+-- ---- polls
+
+-- identifier, six characters, ETX
+abbrev pub message : ℕ → List ℕ → List ℕ
+message i six = itemAt i .first ∷ itemAt i .second ∷ (six ++ (ETX ∷ []))
+
+-- STX, identifier, six characters, ETX, BCC
+unfoldable pub dataReply : ℕ → List ℕ → List ℕ
+dataReply i six = STX ∷ (message i six ++ (bcc (message i six) ∷ []))
+
+-- an item's number text is sent and then waited on, or EOT where its value does not fit six characters
+abbrev pub withText : ℕ → ℕ → ℕ → Written → Step
+withText structure time i w =
+    cond (eqb (w .number) none)
+    (record { link = waitingOn (i + 1) time; number = none; reply = map (sent structure) (dataReply i (w .chars)) })
+    (quit structure noRoom)
+
+-- the item at a place of the list is sent, with its value now
+unfoldable pub itemSent : ℕ → ℕ → List ℤ → ℕ → Step
+itemSent structure time t i = withText structure time i (written 6 (itemAt i .decimals) (answered t i))
+
+-- what an identifier names is sent; an unknown one: EOT, rest
+abbrev pub polled : ℕ → ℕ → List ℤ → Found → Step
+polled structure time t (At i) = itemSent structure time t i
+polled structure time t Nothing = quit structure unknownPolled
+
+-- ---- blocks
+
+-- the answer is ACK with the item stored, or NAK
+abbrev pub judged : ℕ → List ℤ → Verdict → Outcome
+judged structure t (Store i v) = record { step = sends structure ACK (inPhase phases.answered) none; table = stored t i v }
+judged structure t (Refuse n) = record { step = sends structure NAK (inPhase phases.answered) n; table = t }
+
+-- ---- one received byte
+
+-- the table stays
+abbrev pub keeping : List ℤ → Step → Outcome
+keeping t s = record { step = s; table = t }
+
+-- what an act does, in a state that has all at 0 that its phase doesn't use
+unfoldable pub performed : Link → List ℤ → ℕ → ℕ → Act → Outcome
+performed l t structure time (Go phase) = keeping t (silent (inPhase phase))
+performed l t structure time (First a) = keeping t (silent (holdingOne a))
+performed l t structure time (Both a b) = keeping t (silent (holdingTwo a b))
+performed l t structure time (More c) = keeping t (silent (withMore l c))
+performed l t structure time Ended = keeping t (silent (withEnd l))
+performed l t structure time (Quit number) = keeping t (quit structure number)
+performed l t structure time (Poll a b) = keeping t (polled structure time t (found a b))
+performed l t structure time (Send item) = keeping t (itemSent structure time t (item - 1))
+performed l t structure time (Judge c) = judged structure t (verdict (l .mark) (l .bcc) (l .count) (l .kept) c)
+
+-- what a byte, as it was heard, asks for in a state
+abbrev pub asked : Link → ℕ → ℕ → Act
+asked l address c = decided (l .phase) (getD (l .kept) 0 0) (getD (l .kept) 1 0) (l .item) address c
+
+-- the first number of several that is met
+abbrev pub firstMet : List ℕ → ℕ
+firstMet [] = none
+firstMet (n ∷ ns) = cond (eqb n none) (firstMet ns) n
+
+-- a number where a test fails
+abbrev pub unless : Bool → ℕ → ℕ
+unless test number = cond test none number
+
+-- the least reply buffer
+abbrev pub leastBuffer : ℕ
+leastBuffer = 256
+
+-- the faults that every call looks at: buffer, settings, state
+unfoldable pub callFault : Link → ℕ → Bool → ℕ
+callFault l buffer settings =
+    firstMet
+    (unless (leb leastBuffer buffer) shortBuffer
+    ∷ unless settings badSetting
+    ∷ unless (inLimits l) badState
+    ∷ [])
+
+-- an address up to 99, a structure up to 2
+abbrev pub goodSettings : ℕ → ℕ → Bool
+goodSettings address structure = leb address 99 && leb structure 2
+
+-- a byte call looks at the table first
+unfoldable pub byteFault : Link → List ℤ → ℕ → ℕ → ℕ → ℕ
+byteFault l t buffer address structure =
+    firstMet (tableFault t ∷ callFault l buffer (goodSettings address structure) ∷ [])
+
+-- the caller's fault hands the state back as it came
+abbrev pub handedBack : Link → ℕ → Step
+handedBack l number = record { link = l; number = number; reply = [] }
+
+unfoldable pub received : Link → List ℤ → ℕ → ℕ → ℕ → ℕ → ℕ → Outcome
+received l t buffer address structure time byte =
+    cond (eqb (byteFault l t buffer address structure) none)
+    (performed (used l) t structure time (asked (used l) address (heard structure byte)))
+    (keeping t (handedBack l (byteFault l t buffer address structure)))
+
+-- ---- an idle call
+
+-- milliseconds from a time to the present, in a count that goes round
+abbrev pub elapsed : ℕ → ℕ → ℕ
+elapsed present since = (present + (2 ^ 32 - since)) % 2 ^ 32
+
+abbrev pub patience : ℕ
+patience = 3000
+
+-- an idle call has no table and no address
+unfoldable pub idleFault : Link → ℕ → ℕ → ℕ
+idleFault l buffer structure = callFault l buffer (leb structure 2)
+
+-- waiting for three seconds or more: EOT, rest; else the state stays
+abbrev pub passed : Link → ℕ → ℕ → Step
+passed l structure time =
+    cond (eqb (l .phase) waiting && leb patience (elapsed time (l .time))) (quit structure timedOut) (silent l)
+
+unfoldable pub idled : Link → ℕ → ℕ → ℕ → Step
+idled l buffer structure time =
+    cond (eqb (idleFault l buffer structure) none)
+    (passed (used l) structure time)
+    (handedBack l (idleFault l buffer structure))
