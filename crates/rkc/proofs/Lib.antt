@@ -1,3 +1,5 @@
 pub mod Lists
 pub mod Cases
 pub mod Limits
+pub mod Demands
+pub mod Single
