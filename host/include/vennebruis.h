@@ -1,0 +1,227 @@
+/* Vennebruis: the communication link of a panel indicator, as C functions.
+ *
+ * The library keeps nothing between calls and allocates nothing. All that it works on is lent by
+ * the caller for one call: the table of item values, the state of the RKC link, and a buffer for
+ * the reply. Calls that are lent different memory may run at the same time.
+ *
+ * What is lent
+ *   Each lent array is a pointer with the number of its elements (bytes for uint8_t, entries for
+ *   int32_t). The arrays of one call must not overlap. A pointer is never NULL, also where its
+ *   length is 0, and is aligned as its type asks. A wrong length or wrong contents do no harm:
+ *   they are refused by a number.
+ *
+ * What comes back
+ *   Each call gives number + 256 * reply length. VB_NUMBER and VB_LENGTH take it apart. The reply
+ *   stands in the first VB_LENGTH bytes of the reply buffer and is to be sent as it stands; where
+ *   VB_LENGTH is 0 nothing is to be sent. All bytes behind it stay as they were.
+ *
+ * A number from 1 to 9 is the caller's fault, and such a call changes nothing that it was lent
+ * (the results of the two number text calls apart, see there). Any other number tells what the
+ * host did; firmware needs to act on none of them.
+ */
+#ifndef VENNEBRUIS_H
+#define VENNEBRUIS_H
+
+#include <stddef.h>
+#include <stdint.h>
+
+#ifdef __cplusplus
+extern "C" {
+#endif
+
+/* Lengths: of the table in entries, of the link state and the least reply buffer in bytes, and of
+ * number text in characters. */
+#define VB_TABLE_ENTRIES 12
+#define VB_STATE_BYTES 24
+#define VB_REPLY_BYTES 256
+#define VB_TEXT_BYTES 6
+
+/* The two parts of a result. */
+#define VB_NUMBER(result) ((result) % 256u)
+#define VB_LENGTH(result) ((result) / 256u)
+
+/* The numbers given back. A call gives the first that it meets, in the order of this list; where it
+ * tries them in another order, its own comment says so. */
+enum vb_number {
+    VB_NONE = 0, /* nothing to report; there may be a reply */
+
+    /* The caller's faults: no reply, nothing changed. */
+    VB_WRONG_LENGTH = 1,      /* the table does not have VB_TABLE_ENTRIES entries */
+    VB_ENTRY_OUTSIDE = 2,     /* an entry of the table lies outside its item's range */
+    VB_SHORT_BUFFER = 3,      /* the reply buffer has fewer than VB_REPLY_BYTES bytes */
+    VB_BAD_SETTING = 4,       /* address over 99, or 0 for Modbus; structure over 2 */
+    VB_BAD_STATE = 5,         /* the link state is outside its limits, or not VB_STATE_BYTES long */
+    VB_NO_SUCH_ITEM = 6,      /* put: the item number is not 1 to 12 */
+    VB_VALUE_OUTSIDE = 7,     /* put: the value lies outside the item's range */
+    VB_DOES_NOT_FIT = 8,      /* writing text: the value does not fit six characters */
+    VB_TOO_MANY_DECIMALS = 9, /* number text: more than three decimals */
+
+    /* An RKC block is refused: the reply is NAK, the table stays. */
+    VB_LINE_ERROR = 11,          /* a byte of the block broke the line structure */
+    VB_WRONG_BCC = 12,           /* the block check character is another */
+    VB_UNDER_TWO = 13,           /* fewer than two characters: no identifier */
+    VB_UNKNOWN_IDENTIFIER = 14,  /* no item has this identifier */
+    VB_OVER_SIX_CHARACTERS = 15, /* more than six characters of data; also when reading text */
+    VB_NO_NUMBER = 16,           /* the data is no number; also when reading text */
+    VB_READ_ONLY = 17,           /* the item can't be written by the host */
+    VB_OUT_OF_RANGE = 18,        /* the value lies outside the item's range */
+
+    /* A Modbus frame is passed over: no reply, nothing changed. */
+    VB_FRAME_LENGTH = 21,  /* under 4 or over 256 bytes */
+    VB_WRONG_CRC = 22,     /* the CRC is another */
+    VB_OTHER_ADDRESS = 23, /* the frame is for somebody else */
+
+    /* A Modbus request is refused: the reply is an exception of 5 bytes, the table stays. */
+    VB_UNKNOWN_FUNCTION = 31, /* exception 1: a function other than 03H, 06H, 08H */
+    VB_WRONG_REGISTER = 32,   /* exception 2: outside the map, or not writable */
+    VB_WRONG_DATA = 33,       /* exception 3: length, quantity, test code or value */
+
+    /* An RKC poll ends: the reply is EOT, the link rests, the table stays. */
+    VB_NOT_BELONGING = 41,  /* a byte that does not belong into a poll */
+    VB_UNKNOWN_POLLED = 42, /* no item has the identifier that was polled */
+    VB_NOT_AWAITED = 43,    /* neither ACK nor NAK nor EOT came after an item was sent */
+    VB_TIMED_OUT = 44,      /* idle: no byte for three seconds after an item was sent */
+    VB_LIST_ENDED = 45,     /* ACK after the last item: the end of the list, no fault */
+    VB_NO_ROOM = 46         /* the item's value does not fit: no value in its range is one */
+};
+
+/* The items. Entry n - 1 of the table holds item n as a whole number with the point left out: M1
+ * at 12.5 is 125. Behind each: register, what the host may do, decimals on the RKC line, range,
+ * start value. "Write" items may be read too. Entries 2 and 3 stay 0: what AA and AB answer is
+ * worked out each time, 1 where M1 has reached A1 or A2, else 0. */
+enum vb_item {
+    VB_M1 = 1,  /* measured value: 0000H, read, 1, -1999 to 9999, 0 */
+    VB_AA = 2,  /* alarm 1 state: 0001H, read, 0, 0 to 0, 0 */
+    VB_AB = 3,  /* alarm 2 state: 0002H, read, 0, 0 to 0, 0 */
+    VB_B1 = 4,  /* burnout: 0003H, read, 0, 0 to 1, 0 */
+    VB_ER = 5,  /* error code: 0004H, read, 0, 0 to 255, 0 */
+    VB_S1 = 6,  /* set value: 000BH, write, 1, -1999 to 9999, 0 */
+    VB_A1 = 7,  /* alarm 1: 000CH, write, 1, -1999 to 9999, 500 */
+    VB_A2 = 8,  /* alarm 2: 000EH, write, 1, -1999 to 9999, 500 */
+    VB_PB = 9,  /* offset: 0010H, write, 2, -1000 to 1000, 0 */
+    VB_PR = 10, /* ratio: 0011H, write, 3, 500 to 1500, 1000 */
+    VB_F1 = 11, /* filter: 0012H, write, 0, 0 to 100, 0 */
+    VB_TM = 12  /* test number: 0008H, write, 0, 0 to 999, 0 */
+};
+
+/* How a character stands in the eight bits of a byte on the RKC line. */
+enum vb_structure {
+    VB_TOP_BIT_ZERO = 0, /* the top bit is 0 */
+    VB_EVEN_ONES = 1,    /* the top bit makes the number of ones even */
+    VB_ODD_ONES = 2      /* the top bit makes the number of ones odd */
+};
+
+/* The link state. Firmware keeps its 24 bytes between calls and need not look into them:
+ *
+ *   byte 0         phase, see below
+ *   byte 1         item last sent, 1 to 12: waiting
+ *   byte 2         characters of the block, up to 9: text, BCC due
+ *   byte 3         exclusive or of the block so far, below 80H: text, BCC due
+ *   byte 4         not 0 where the block has met a line error: text, BCC due
+ *   bytes 8 to 11  time of the last item sent, low byte first: waiting
+ *   bytes 12 to 19 kept characters, each below 80H: one of them in one character, two in two
+ *                  characters, as many as are counted (at most 8) in text and BCC due
+ *
+ * A field is used in the phases named behind it. All else, also kept characters past the count, is
+ * ignored going in and 0 coming out. */
+enum vb_phase {
+    VB_REST = 0,           /* waits for EOT */
+    VB_FIRST_DIGIT = 1,    /* EOT came; the first digit of the address is next */
+    VB_SECOND_DIGIT = 2,   /* the second digit is next */
+    VB_ADDRESSED = 3,      /* the address was ours; a poll or a block is next */
+    VB_ONE_CHARACTER = 4,  /* one character of an identifier came */
+    VB_TWO_CHARACTERS = 5, /* two of them came; ENQ is next */
+    VB_WAITING = 6,        /* an item was sent; ACK, NAK or EOT is next */
+    VB_TEXT = 7,           /* a block is open */
+    VB_BCC_DUE = 8,        /* ETX came; the block check character is next */
+    VB_ANSWERED = 9        /* a block was answered; another one or EOT is next */
+};
+
+/* Sets each entry of the table to its item's start value. To be called once, before all else, or
+ * in place of settings that were lost.
+ *
+ * Gives 0, or 1 where n is not VB_TABLE_ENTRIES; then the table stays. */
+uint32_t vb_start_table(int32_t *table, size_t n);
+
+/* Sets the link state to the start: phase rest, all else 0. To be called once before the first
+ * byte; it may be called at any time to drop what the link is in.
+ *
+ * Gives 0, or 5 where n is not VB_STATE_BYTES; then the state stays. */
+uint32_t vb_start_link(uint8_t *state, size_t n);
+
+/* One byte received on the RKC line, with its parity bit as it came (structure says which one).
+ *
+ * state, sn   the link state; VB_STATE_BYTES
+ * table, tn   the item values; VB_TABLE_ENTRIES
+ * reply, rn   where the reply goes; VB_REPLY_BYTES or more
+ * address     of this device, 0 to 99
+ * structure   enum vb_structure; the reply is sent in the same one
+ * now         milliseconds from any start, going round at 2^32
+ * byte        what was received; also one that is not for this device
+ *
+ * Gives 0, 1 to 5, 11 to 18, 41, 42, 43 or 45. Where there is a reply, it is an item (11 bytes) or
+ * one of ACK, NAK and EOT (1 byte). The state goes on to the next phase; the table changes in one
+ * entry where a block is answered by ACK, and stays otherwise. With 1 to 5 state, table and buffer
+ * stay. */
+uint32_t vb_byte(uint8_t *state, size_t sn, int32_t *table, size_t tn, uint8_t *reply, size_t rn,
+                 uint8_t address, uint8_t structure, uint32_t now, uint8_t byte);
+
+/* To be called every now and then while no byte comes, so that a poll ends where the host falls
+ * silent: once three seconds have gone by since the last item was sent, EOT is the reply and the
+ * link rests (44). In any other phase it does nothing but give 0.
+ *
+ * now counts as in vb_byte and may have gone round since. A full turn takes 49 days, and a silence
+ * that long can't be told from none.
+ *
+ * Gives 0, 3, 4 (for the structure), 5 or 44. With 3 to 5 state and buffer stay. */
+uint32_t vb_idle(uint8_t *state, size_t sn, uint8_t *reply, size_t rn, uint8_t structure,
+                 uint32_t now);
+
+/* One whole Modbus RTU frame, from address to CRC. The driver finds the silences that end a frame.
+ * The frame may have any length and any contents; it is read only, and must not lie in the reply
+ * buffer.
+ *
+ * table, tn   the item values; VB_TABLE_ENTRIES
+ * reply, rn   where the reply goes, its CRC included; VB_REPLY_BYTES or more
+ * address     of this device, 1 to 99
+ * frame, fn   what was received
+ *
+ * Gives 0, 1 to 4, 21 to 23 or 31 to 33. A frame that is not 8 bytes long is 33 in each function;
+ * 03H then tries the quantity (33) before the registers (32), 06H the register (32) before the
+ * value (33). The table changes in one entry where 06H gives 0, and stays otherwise. With 1 to 4
+ * and 21 to 23 there is no reply. */
+uint32_t vb_rtu(int32_t *table, size_t tn, uint8_t *reply, size_t rn, uint8_t address,
+                const uint8_t *frame, size_t fn);
+
+/* Sets an item from the firmware: a measured value, an error code, a setting made at the panel.
+ * Every item may be set, within its range.
+ *
+ * item        enum vb_item, 1 to 12
+ * value       the number with its point left out
+ *
+ * Gives 0, 1, 2, 6 or 7. With 0 the item's entry is the value and all others stay; else the table
+ * stays. An entry outside its range is 2 here too, also where this very put would mend it. */
+uint32_t vb_put(int32_t *table, size_t tn, uint32_t item, int32_t value);
+
+/* Reads number text as the RKC line does: at most six characters, a minus first if any, digits with
+ * at most one point, and at least one digit. The value is the number times 10 to the decimals, cut
+ * off toward zero: with 2 decimals "-.058" is -5 and "5." is 500.
+ *
+ * Gives 0 with the value set, or 9, 15 or 16 with the value 0. */
+uint32_t vb_read_text(uint8_t decimals, const uint8_t *chars, size_t n, int32_t *value);
+
+/* Writes a value as the RKC line sends it: six characters, a minus first if it is below zero, zeros
+ * on the left, a point before the last decimals: with 2 decimals -5 is "-00.05". No 0 byte is put
+ * behind them.
+ *
+ * What fits: -99999 to 999999 without decimals, -9999 to 99999 with 1 to 3.
+ *
+ * Gives 0, or 9 or 8 with six zero bytes in place of the text. Bytes behind the six stay. Where n
+ * is under VB_TEXT_BYTES it gives 3, before 9 and 8, and writes nothing. */
+uint32_t vb_write_text(uint8_t decimals, int32_t value, uint8_t *chars, size_t n);
+
+#ifdef __cplusplus
+}
+#endif
+
+#endif
