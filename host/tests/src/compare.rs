@@ -1,0 +1,142 @@
+//! Each call is made by the reference and by the library, and what both gave and left is compared
+//! byte for byte.
+
+use crate::call::Call;
+use crate::library::Library;
+
+/// What went wrong, in words for whoever has to find out why.
+pub struct Failure(pub String);
+
+pub type Checked<T> = Result<T, Failure>;
+
+/// A batch goes to the driver once it has this many bytes. With the last call it stays below the
+/// driver's limit of 2^20.
+const BATCH_BYTES: usize = 1_000_000;
+
+/// Calls as they were before they were made, and the answers that the reference gives to them.
+#[derive(Default)]
+struct Batch {
+    calls: Vec<Call>,
+    requests: Vec<u8>,
+    answers: Vec<u8>,
+    /// Where each call's answer ends.
+    ends: Vec<usize>,
+}
+
+impl Batch {
+    /// The calls, each with its place and that of its answer.
+    fn parts(&self) -> impl Iterator<Item = (&Call, std::ops::Range<usize>)> {
+        let starts = std::iter::once(&0).chain(&self.ends);
+        let answers = starts.zip(&self.ends).map(|(start, end)| *start..*end);
+        self.calls.iter().zip(answers)
+    }
+}
+
+pub struct Compare {
+    command: Vec<String>,
+    library: Library,
+    filling: Batch,
+    /// The batch that the library works on.
+    running: Batch,
+    /// Calls whose outcomes were found the same.
+    same: u64,
+    /// How often each number was given back.
+    counts: [u64; 256],
+}
+
+impl Compare {
+    /// The command starts the driver.
+    pub fn with(command: Vec<String>) -> Checked<Compare> {
+        Ok(Compare {
+            library: started(&command)?,
+            command,
+            filling: Batch::default(),
+            running: Batch::default(),
+            same: 0,
+            counts: [0; 256],
+        })
+    }
+
+    /// Makes a call by the reference, whose result and lent arrays are handed back, and leaves it
+    /// to the library to make it too.
+    pub fn call(&mut self, call: &mut Call) -> Checked<u32> {
+        let batch = &mut self.filling;
+        batch.calls.push(call.clone());
+        call.request(&mut batch.requests);
+        let result = call.by_reference();
+        call.answer(result, &mut batch.answers);
+        batch.ends.push(batch.answers.len());
+        self.counts[(result % 256) as usize] += 1;
+        if self.filling.requests.len() >= BATCH_BYTES {
+            self.turn()?;
+        }
+        Ok(result)
+    }
+
+    /// Compares all that is still under way.
+    pub fn finish(&mut self) -> Checked<()> {
+        self.turn()?;
+        self.turn()
+    }
+
+    pub fn calls(&self) -> u64 {
+        self.same
+    }
+
+    pub fn count(&self, number: usize) -> u64 {
+        self.counts[number]
+    }
+
+    /// Takes in the answers to the running batch and hands over the filled one.
+    fn turn(&mut self) -> Checked<()> {
+        let batch = std::mem::take(&mut self.running);
+        match self.library.receive(batch.answers.len()) {
+            Ok(answers) => self.compare(&batch, &answers)?,
+            Err(_) => return Err(self.ended_at(&batch)),
+        }
+        self.running = std::mem::take(&mut self.filling);
+        self.library
+            .send(&self.running.requests)
+            .map_err(|error| Failure(format!("the driver takes no more requests: {error}")))
+    }
+
+    fn compare(&mut self, batch: &Batch, answers: &[u8]) -> Checked<()> {
+        for (call, place) in batch.parts() {
+            let (ours, theirs) = (&batch.answers[place.clone()], &answers[place]);
+            if ours != theirs {
+                return Err(Failure(format!(
+                    "call {} differs\n{call}\nreference: {}\nlibrary: {}",
+                    self.same + 1,
+                    call.shown(ours),
+                    call.shown(theirs)
+                )));
+            }
+            self.same += 1;
+        }
+        Ok(())
+    }
+
+    /// The library has ended the driver somewhere in a batch: its calls are made one at a time to
+    /// find where.
+    fn ended_at(&mut self, batch: &Batch) -> Failure {
+        let mut library = match started(&self.command) {
+            Ok(library) => library,
+            Err(failure) => return failure,
+        };
+        for (call, place) in batch.parts() {
+            let mut request = vec![];
+            call.request(&mut request);
+            let answered = library.send(&request).and(library.receive(place.len()));
+            if answered.is_err() {
+                let number = self.same + 1;
+                return Failure(format!("call {number} ends the library's program\n{call}"));
+            }
+            self.same += 1;
+        }
+        Failure("the library's program ended, and not again in the same calls".to_string())
+    }
+}
+
+fn started(command: &[String]) -> Checked<Library> {
+    Library::start(command).map_err(|error| Failure(format!("{} : {error}", command.join(" "))))
+}

@@ -1,0 +1,98 @@
+use crate::call::{Call, Function};
+use crate::compare::{Checked, Compare};
+use crate::random::Random;
+use crate::shapes::{
+    bad_state, good_state, good_table, odd_state, odd_table, pattern, ADDRESSES, PHASES,
+    REPLY_LENGTHS, STRUCTURES,
+};
+use reference::items::ITEMS;
+
+/// The calls that look at the table.
+const WITH_TABLE: [Function; 3] = [Function::Byte, Function::Rtu, Function::Put];
+
+/// A call with nothing outside its limits.
+fn good(random: &mut Random, function: Function) -> Call {
+    let phase = random.below(usize::from(PHASES)) as u8;
+    Call {
+        address: 1,
+        byte: random.byte(),
+        now: random.word(),
+        item: random.below(12) as u32 + 1,
+        state: good_state(random, phase),
+        table: good_table(random),
+        reply: pattern(random, 256),
+        input: vec![1, 8, 0, 0, 0x1F, 0x34, 0xE9, 0xEC],
+        ..Call::new(function)
+    }
+}
+
+/// Each entry at both ends of its range and one step beyond, in each call that looks at it.
+pub fn entries(compare: &mut Compare, random: &mut Random) -> Checked<()> {
+    for function in WITH_TABLE {
+        for (place, row) in ITEMS.iter().enumerate() {
+            for entry in [
+                i32::MIN,
+                row.low - 1,
+                row.low,
+                row.high,
+                row.high + 1,
+                i32::MAX,
+            ] {
+                let mut call = good(random, function);
+                call.table[place] = entry;
+                compare.call(&mut call)?;
+            }
+        }
+    }
+    Ok(())
+}
+
+/// Any mixture of faults, so that each number is met in its place in the order.
+pub fn together(compare: &mut Compare, random: &mut Random) -> Checked<()> {
+    let functions = [Function::Byte, Function::Idle, Function::Rtu, Function::Put];
+    for _ in 0..150_000 {
+        let function = random.pick(&functions);
+        let mut call = good(random, function);
+        if random.one_in(3) {
+            call.table = odd_table(random);
+        }
+        if random.one_in(3) {
+            let length = random.pick(&REPLY_LENGTHS);
+            call.reply = pattern(random, length);
+        }
+        if random.one_in(3) {
+            call.address = random.pick(&ADDRESSES);
+        }
+        if random.one_in(3) {
+            call.structure = random.pick(&STRUCTURES);
+        }
+        if random.one_in(3) {
+            call.state = odd_state(random);
+        }
+        if random.one_in(3) {
+            call.item = random.pick(&[0, 1, 12, 13, u32::MAX]);
+            call.value = random.pick(&[i32::MIN, -2000, 0, 1, 10_000, i32::MAX]);
+        }
+        compare.call(&mut call)?;
+    }
+    Ok(())
+}
+
+/// States alone, by a byte and by an idle call: every value of the phase, and hostile fields in
+/// each known one.
+pub fn states(compare: &mut Compare, random: &mut Random) -> Checked<()> {
+    for function in [Function::Byte, Function::Idle] {
+        for phase in 0..=255 {
+            let mut call = good(random, function);
+            call.state[0] = phase;
+            compare.call(&mut call)?;
+        }
+        for _ in 0..100_000 {
+            let mut call = good(random, function);
+            call.structure = random.below(3) as u8;
+            call.state = bad_state(random);
+            compare.call(&mut call)?;
+        }
+    }
+    Ok(())
+}

@@ -1,0 +1,86 @@
+use crate::call::{Call, Function};
+use crate::compare::{Checked, Compare};
+use crate::random::Random;
+use crate::shapes::pattern;
+
+/// Characters of which each stands for a kind: a sign, the point, digits, and one that is none.
+const KINDS: [u8; 6] = *b"-.059+";
+
+/// The longest text that can be a number.
+const LONGEST: u32 = 6;
+
+/// All texts over the kinds at all decimals that are allowed; then any characters, lengths and
+/// decimals.
+pub fn read(compare: &mut Compare, random: &mut Random) -> Checked<()> {
+    for length in 0..=LONGEST {
+        for code in 0..KINDS.len().pow(length) {
+            for decimals in 0..=3 {
+                reading(compare, random, decimals, spelled(length, code))?;
+            }
+        }
+    }
+    for _ in 0..60_000 {
+        let decimals = any_decimals(random);
+        let length = random.below(11);
+        let any = (0..length).map(|_| match random.below(12) {
+            0 => random.byte(),
+            _ => random.pick(b"-.0123456789"),
+        });
+        let text = any.collect();
+        reading(compare, random, decimals, text)?;
+    }
+    Ok(())
+}
+
+/// The text whose characters are the digits of a code, the last one first.
+fn spelled(length: u32, mut code: usize) -> Vec<u8> {
+    let mut text = vec![];
+    for _ in 0..length {
+        text.push(KINDS[code % KINDS.len()]);
+        code /= KINDS.len();
+    }
+    text
+}
+
+/// The value's place holds something else before.
+fn reading(compare: &mut Compare, random: &mut Random, decimals: u8, text: Vec<u8>) -> Checked<()> {
+    compare.call(&mut Call {
+        decimals,
+        table: vec![random.word() as i32],
+        input: text,
+        ..Call::new(Function::ReadText)
+    })?;
+    Ok(())
+}
+
+/// Values on both sides of what fits and of each power of ten, into buffers too short and too long.
+pub fn written(compare: &mut Compare, random: &mut Random) -> Checked<()> {
+    for _ in 0..100_000 {
+        let power = 10_i32.pow(random.below(10) as u32);
+        let sign = random.pick(&[-1, 1]);
+        let value = match random.below(6) {
+            0 => random.word() as i32,
+            1 => random.pick(&[i32::MIN, i32::MIN + 1, i32::MAX, 0]),
+            2 => sign * (power - random.between(0, 2)),
+            3 => sign * power + random.between(-2, 2),
+            _ => random.between(-100_100, 1_000_100),
+        };
+        let length = random.pick(&[0, 1, 2, 3, 4, 5, 6, 6, 6, 6, 6, 7, 8, 9, 10]);
+        compare.call(&mut Call {
+            decimals: any_decimals(random),
+            value,
+            input: pattern(random, length),
+            ..Call::new(Function::WriteText)
+        })?;
+    }
+    Ok(())
+}
+
+/// Mostly decimals that are allowed.
+fn any_decimals(random: &mut Random) -> u8 {
+    match random.below(8) {
+        0 => random.byte(),
+        1 => 4,
+        _ => random.below(4) as u8,
+    }
+}

@@ -1,0 +1,43 @@
+use crate::compare::{Checked, Compare};
+use crate::instrument::Instrument;
+use crate::random::Random;
+use crate::shapes::{good_table, WAITING};
+use reference::items::ITEMS;
+use reference::line::{ACK, ENQ, NAK};
+
+/// A waiting link is asked for its item again, with each value that the item can have.
+pub fn every_value(compare: &mut Compare, random: &mut Random) -> Checked<()> {
+    for (place, row) in ITEMS.iter().enumerate() {
+        for value in row.low..=row.high {
+            let mut instrument = Instrument::any(random);
+            instrument.state[0] = WAITING;
+            instrument.state[1] = place as u8 + 1;
+            instrument.table[place] = value;
+            let again = instrument.sent(NAK);
+            instrument.byte(compare, random, again)?;
+        }
+    }
+    Ok(())
+}
+
+/// From each item to the end of the list, with the table changing on the way.
+pub fn runs(compare: &mut Compare, random: &mut Random) -> Checked<()> {
+    for _ in 0..100 {
+        for row in &ITEMS {
+            let mut instrument = Instrument::any(random);
+            let mut poll = Instrument::calling(instrument.address);
+            poll.extend(row.id);
+            poll.push(ENQ);
+            for character in poll {
+                let byte = instrument.sent(character);
+                instrument.byte(compare, random, byte)?;
+            }
+            while instrument.state[0] == WAITING {
+                let answer = instrument.sent(random.pick(&[ACK, ACK, NAK]));
+                instrument.byte(compare, random, answer)?;
+                instrument.table = good_table(random);
+            }
+        }
+    }
+    Ok(())
+}

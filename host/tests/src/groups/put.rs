@@ -1,0 +1,26 @@
+use crate::call::{Call, Function};
+use crate::compare::{Checked, Compare};
+use crate::random::Random;
+use crate::shapes::{any_value, bad_table, good_table};
+
+/// Every item number in and around the list, with values in and beside the item's range, into
+/// tables of which some have a bad entry already.
+pub fn values(compare: &mut Compare, random: &mut Random) -> Checked<()> {
+    for _ in 0..100_000 {
+        let item = random.below(12) + 1;
+        compare.call(&mut Call {
+            item: match random.below(8) {
+                0 => random.pick(&[0, 13, 255, 256, 257, 1 << 31, u32::MAX]),
+                1 => random.word(),
+                _ => item as u32,
+            },
+            value: any_value(random, item),
+            table: match random.below(6) {
+                0 => bad_table(random),
+                _ => good_table(random),
+            },
+            ..Call::new(Function::Put)
+        })?;
+    }
+    Ok(())
+}

@@ -1,0 +1,126 @@
+use crate::call::{Call, Function};
+use crate::compare::{Checked, Compare};
+use crate::random::Random;
+use crate::shapes::{any_value, good_table, pattern};
+use reference::items::ITEMS;
+use reference::modbus::with_crc;
+
+/// Hands a frame to an instrument with any good table.
+fn handed(compare: &mut Compare, random: &mut Random, address: u8, frame: Vec<u8>) -> Checked<()> {
+    let length = random.pick(&[256, 256, 256, 300]);
+    compare.call(&mut Call {
+        address,
+        table: good_table(random),
+        reply: pattern(random, length),
+        input: frame,
+        ..Call::new(Function::Rtu)
+    })?;
+    Ok(())
+}
+
+/// A frame of address, function and two words, with its CRC.
+fn words(address: u8, function: u8, first: u16, second: u16) -> Vec<u8> {
+    let mut body = vec![address, function];
+    body.extend(first.to_be_bytes());
+    body.extend(second.to_be_bytes());
+    with_crc(body)
+}
+
+/// 03H, 06H and 08H with all that their two words can be wrong in.
+pub fn functions(compare: &mut Compare, random: &mut Random) -> Checked<()> {
+    for _ in 0..8 {
+        reads(compare, random)?;
+    }
+    writes(compare, random)?;
+    for _ in 0..20_000 {
+        let code = random.pick(&[0, 0, 1, 0x0100, 0xFFFF]);
+        handed(compare, random, 7, words(7, 0x08, code, 0x1F34))?;
+    }
+    Ok(())
+}
+
+/// Every span in and around the map, and quantities at both ends of what is allowed.
+fn reads(compare: &mut Compare, random: &mut Random) -> Checked<()> {
+    for start in (0..=21).chain([0x00FF, 0x0100, 0x7FFF, 0x8000, 0xFFEC, 0xFFED, 0xFFFF]) {
+        for quantity in (0..=21).chain([124, 125, 126, 127, 255, 256, 257, 0x8000, 0xFFFF]) {
+            handed(compare, random, 1, words(1, 0x03, start, quantity))?;
+        }
+    }
+    Ok(())
+}
+
+/// Every register in and around the map, with values in and beside the range of its item.
+fn writes(compare: &mut Compare, random: &mut Random) -> Checked<()> {
+    for _ in 0..60_000 {
+        let item = random.below(12) + 1;
+        let register = match random.below(8) {
+            0 => random.below(22) as u16,
+            1 => random.word() as u16,
+            _ => ITEMS[item - 1].register,
+        };
+        let value = any_value(random, item) as u16;
+        handed(compare, random, 99, words(99, 0x06, register, value))?;
+    }
+    Ok(())
+}
+
+/// Every function, every length on both sides of what a frame can have, every address, and bytes
+/// that are no frame at all.
+pub fn every(compare: &mut Compare, random: &mut Random) -> Checked<()> {
+    for length in 0..=300 {
+        for function in [0x03, 0x06, 0x08, 0x10] {
+            let frame = long(random, length, function);
+            handed(compare, random, 1, frame)?;
+        }
+    }
+    for function in 0..=255 {
+        for length in [4, 5, 7, 8, 9, 255, 256] {
+            let frame = long(random, length, function);
+            handed(compare, random, 1, frame)?;
+        }
+    }
+    for address in 0..=255 {
+        for ours in [1, 98, 99] {
+            handed(compare, random, ours, words(address, 0x03, 0, 19))?;
+        }
+    }
+    for _ in 0..60_000 {
+        let frame = mutated(random);
+        handed(compare, random, 1, frame)?;
+    }
+    Ok(())
+}
+
+/// A frame of any length for address 1, with its CRC where there is room for one.
+fn long(random: &mut Random, length: usize, function: u8) -> Vec<u8> {
+    if length < 4 {
+        return random.bytes(length);
+    }
+    let mut body = vec![1, function];
+    body.extend(random.bytes(length - 4));
+    with_crc(body)
+}
+
+/// A good request after something has happened to it. Most have a right CRC again.
+fn mutated(random: &mut Random) -> Vec<u8> {
+    let function = random.pick(&[0x03, 0x06, 0x08]);
+    let mut frame = words(
+        1,
+        function,
+        random.below(20) as u16,
+        random.below(20) as u16,
+    );
+    match random.below(6) {
+        0 => frame.swap(6, 7),
+        1 => frame.truncate(random.below(8)),
+        2 => frame.extend(random.bytes(3)),
+        3 => frame = random.some_bytes(12),
+        4 => frame[random.below(8)] = random.byte(),
+        _ => {
+            let mut body = frame[..6].to_vec();
+            body[random.below(6)] = random.byte();
+            frame = with_crc(body);
+        }
+    }
+    frame
+}

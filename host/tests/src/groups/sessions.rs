@@ -1,0 +1,189 @@
+use crate::compare::{Checked, Compare};
+use crate::instrument::Instrument;
+use crate::random::Random;
+use crate::shapes::{any_value, identifier};
+use reference::items::ITEMS;
+use reference::line::{bcc, ACK, ENQ, EOT, ETX, NAK, STX};
+use reference::number;
+
+/// What a host program that keeps the rules sends, with much that is refused.
+pub fn whole(compare: &mut Compare, random: &mut Random) -> Checked<()> {
+    sessions(compare, random, |instrument, characters, _| {
+        characters
+            .iter()
+            .map(|character| instrument.sent(*character))
+            .collect()
+    })
+}
+
+/// The same over a bad line.
+pub fn damaged(compare: &mut Compare, random: &mut Random) -> Checked<()> {
+    sessions(compare, random, |instrument, characters, random| {
+        let mut bytes = vec![];
+        for character in characters {
+            let byte = instrument.sent(*character);
+            if random.one_in(12) {
+                bytes.extend(damage(random, byte));
+            } else {
+                bytes.push(byte);
+            }
+        }
+        bytes
+    })
+}
+
+/// What may arrive in the place of a byte: nothing, two bytes, or another one.
+fn damage(random: &mut Random, byte: u8) -> Vec<u8> {
+    match random.below(8) {
+        0 => vec![],
+        1 => vec![byte, byte],
+        2 => vec![random.byte()],
+        3 => vec![random.byte(), byte],
+        4 => vec![byte ^ (1 << random.below(8))],
+        _ => vec![byte ^ 0x80],
+    }
+}
+
+type Line = fn(&Instrument, &[u8], &mut Random) -> Vec<u8>;
+
+/// Sessions of many moves each. No move waits for the link to rest, so that each may break into
+/// what the one before it has begun.
+fn sessions(compare: &mut Compare, random: &mut Random, line: Line) -> Checked<()> {
+    for _ in 0..4000 {
+        let mut instrument = Instrument::any(random);
+        for _ in 0..30 {
+            let characters = moved(random, instrument.address);
+            for byte in line(&instrument, &characters, random) {
+                instrument.byte(compare, random, byte)?;
+                let pause = random.pick(&[0, 1, 1, 20, 20, 20, 2999, 3000, 1 << 31]);
+                instrument.now = instrument.now.wrapping_add(pause);
+                if random.one_in(16) {
+                    instrument.idle(compare, random)?;
+                }
+            }
+        }
+    }
+    Ok(())
+}
+
+/// The characters of one move of the host.
+fn moved(random: &mut Random, address: u8) -> Vec<u8> {
+    match random.below(10) {
+        0..=2 => poll(random, address),
+        3..=5 => answers(random),
+        6..=8 => block(random, address),
+        _ => vec![random.pick(&[EOT, STX, ETX, ENQ, ACK, NAK, b'0', 0x7F, 0])],
+    }
+}
+
+/// The call of an address, nearly always the right one.
+fn called(random: &mut Random, address: u8) -> Vec<u8> {
+    if random.one_in(12) {
+        Instrument::calling(random.below(100) as u8)
+    } else {
+        Instrument::calling(address)
+    }
+}
+
+fn poll(random: &mut Random, address: u8) -> Vec<u8> {
+    let mut characters = called(random, address);
+    characters.extend(identifier(random));
+    characters.push(if random.one_in(12) {
+        random.byte() & 0x7F
+    } else {
+        ENQ
+    });
+    characters
+}
+
+/// What a host says to the items that it is sent.
+fn answers(random: &mut Random) -> Vec<u8> {
+    let mut characters = vec![];
+    for _ in 0..random.below(8) {
+        characters.push(random.pick(&[ACK, ACK, ACK, NAK]));
+    }
+    characters
+}
+
+/// A block, or a second one behind an answer, which needs no address.
+fn block(random: &mut Random, address: u8) -> Vec<u8> {
+    let mut characters = if random.one_in(4) {
+        vec![]
+    } else {
+        called(random, address)
+    };
+    let mut checked = text(random);
+    checked.push(ETX);
+    let check = check_of(random, &checked);
+    characters.push(STX);
+    characters.extend(checked);
+    characters.push(check);
+    characters
+}
+
+/// The right BCC more often than not; else one that a host might work out wrongly, EOT, or any.
+fn check_of(random: &mut Random, checked: &[u8]) -> u8 {
+    let right = bcc(checked);
+    match random.below(12) {
+        0 => EOT,
+        1 => right ^ STX,
+        2 => right ^ ETX,
+        3 => right ^ (1 << random.below(7)),
+        4 => random.byte() & 0x7F,
+        _ => right,
+    }
+}
+
+/// The text of a block: an identifier and data, or less. A text whose BCC is EOT is looked for now
+/// and then.
+fn text(random: &mut Random) -> Vec<u8> {
+    let tries = if random.one_in(4) { 50 } else { 1 };
+    let mut text = vec![];
+    for _ in 0..tries {
+        text = any_text(random);
+        if bcc(&text) ^ ETX == EOT {
+            break;
+        }
+    }
+    text
+}
+
+fn any_text(random: &mut Random) -> Vec<u8> {
+    if random.one_in(12) {
+        return random.some_bytes(3).iter().map(|b| b & 0x7F).collect();
+    }
+    let mut text = identifier(random).to_vec();
+    match random.below(6) {
+        0 => text.extend(symbols(random, 9)),
+        1 => text.extend(symbols(random, 6)),
+        _ => text.extend(value_text(random, &text)),
+    }
+    text
+}
+
+/// Characters of which some make a number.
+fn symbols(random: &mut Random, most: usize) -> Vec<u8> {
+    let length = random.below(most + 1);
+    (0..length)
+        .map(|_| random.pick(b"-.0123456789.-+ \x02\x7F"))
+        .collect()
+}
+
+/// A value in or beside the range of the item with this identifier, in one of the ways that it can
+/// be written.
+fn value_text(random: &mut Random, id: &[u8]) -> Vec<u8> {
+    let item = reference::items::with_id(id).unwrap_or(9);
+    let decimals = ITEMS[item - 1].decimals;
+    let value = any_value(random, item);
+    let mut text = match number::write(decimals, value) {
+        Ok(six) => six.to_vec(),
+        Err(_) => value.to_string().into_bytes(),
+    };
+    if random.one_in(2) {
+        let start = usize::from(text[0] == b'-');
+        while text.len() > start + 1 && text[start] == b'0' {
+            text.remove(start);
+        }
+    }
+    text
+}
