@@ -1,5 +1,28 @@
-# `make test` is the gate: every proof, every must-fail edit and every program; its last line is `N passed, M failed`.
-.PHONY: test
+# `make test` is the gate: every proof, every must-fail edit, every program and every test around the library. Its last
+# line is `N passed, M failed`.
+.PHONY: test reference compare example
 
 test:
-	@rt ci
+	@host/gate
+
+# The library that firmware links.
+library = target/staticlib/libpanel.a
+$(library): crates.txt $(shell find crates -type f)
+	rt staticlib panel
+
+# The tests of the reference, which is the link written a second time.
+cargo_words = --quiet --release --locked --target-dir target/cargo --manifest-path
+reference:
+	cargo test $(cargo_words) host/reference/Cargo.toml
+
+# Library against reference on millions of calls; `make compare SEED=N` makes those of an earlier run again.
+compare: $(library)
+	host/build/program target/host/driver host/tests/driver.c
+	cargo build $(cargo_words) host/tests/Cargo.toml
+	target/cargo/release/compare $(if $(SEED),--seed $(SEED)) host/build/run target/host/driver
+
+# The program that firmware can start from.
+example: $(library)
+	host/build/program target/host/example host/example/example.c
+	host/build/run target/host/example >target/host/example.stdout
+	diff host/example/stdout target/host/example.stdout

@@ -19,15 +19,6 @@ type Group = fn(&mut Compare, &mut Random) -> Checked<()>;
 
 pub const GROUPS: [(&str, Group); 18] = [
     ("start table and start state at all lengths", start::lengths),
-    ("entries beside each end of their range", limits::entries),
-    (
-        "all that can be outside its limits, together",
-        limits::together,
-    ),
-    (
-        "link states with any field outside its limits",
-        limits::states,
-    ),
     (
         "every byte in every phase and structure",
         phases::every_byte,
@@ -47,5 +38,14 @@ pub const GROUPS: [(&str, Group); 18] = [
     ("values put by the firmware", put::values),
     ("number text read", number_text::read),
     ("number text written", number_text::written),
+    ("entries beside each end of their range", limits::entries),
+    (
+        "link states with any field outside its limits",
+        limits::states,
+    ),
+    (
+        "all that can be outside its limits, together",
+        limits::together,
+    ),
     ("noise in every argument", noise::noise),
 ];

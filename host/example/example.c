@@ -1,0 +1,81 @@
+/* A panel on two lines, as firmware would run it: what it keeps, and what it does at the start, for
+ * each byte of the RKC line, while that line is silent, and for each frame of the Modbus line.
+ *
+ * main() plays the outside world: a host sets the offset and asks for it, then falls silent;
+ * another one tries the Modbus line. In firmware its calls come from the serial drivers and the
+ * clock. */
+#include "vennebruis.h"
+
+/* Of the C library. Declared here, since a cross compiler may come without its headers. */
+int printf(const char *format, ...);
+
+enum { ADDRESS = 1 };
+
+/* All that is kept between calls. The reply buffer may be shared, as a reply is sent before the
+ * next call. */
+static int32_t table[VB_TABLE_ENTRIES];
+static uint8_t link_state[VB_STATE_BYTES];
+static uint8_t reply[VB_REPLY_BYTES];
+
+/* Hands bytes to a line's serial driver. Here they are shown instead. */
+static void transmit(const char *line, const uint8_t *bytes, size_t n) {
+    printf("%s", line);
+    for (size_t i = 0; i < n; i++)
+        printf(" %02X", bytes[i]);
+    printf("\n");
+}
+
+/* What every call's result is for: a reply to send, or a fault of the firmware's own. */
+static void act_on(const char *line, uint32_t result) {
+    uint32_t number = VB_NUMBER(result);
+    if (number >= VB_WRONG_LENGTH && number <= VB_TOO_MANY_DECIMALS)
+        printf("fault %u\n", (unsigned)number);
+    if (VB_LENGTH(result) > 0)
+        transmit(line, reply, VB_LENGTH(result));
+}
+
+static void start(void) {
+    act_on("start", vb_start_table(table, VB_TABLE_ENTRIES));
+    act_on("start", vb_start_link(link_state, sizeof link_state));
+}
+
+/* A new measured value, with its point left out: 12.5 is 125. */
+static void measured(int32_t value) {
+    act_on("put", vb_put(table, VB_TABLE_ENTRIES, VB_M1, value));
+}
+
+/* A byte has come on the RKC line. */
+static void rkc_received(uint8_t byte, uint32_t now) {
+    act_on("rkc", vb_byte(link_state, sizeof link_state, table, VB_TABLE_ENTRIES, reply,
+                          sizeof reply, ADDRESS, VB_TOP_BIT_ZERO, now, byte));
+}
+
+/* Nothing has come on the RKC line for a while. */
+static void rkc_silent(uint32_t now) {
+    act_on("rkc",
+           vb_idle(link_state, sizeof link_state, reply, sizeof reply, VB_TOP_BIT_ZERO, now));
+}
+
+/* A silence on the Modbus line has ended a frame. */
+static void rtu_received(const uint8_t *frame, size_t n) {
+    act_on("rtu", vb_rtu(table, VB_TABLE_ENTRIES, reply, sizeof reply, ADDRESS, frame, n));
+}
+
+int main(void) {
+    /* EOT, address 01, a block that sets PB to "-8" with its BCC; EOT, address 01, a poll of PB. */
+    static const uint8_t heard[] = {0x04, '0',  '1',  0x02, 'P', 'B', '-', '8',
+                                    0x03, 0x04, 0x04, '0',  '1', 'P', 'B', 0x05};
+    /* The loopback test, and a read of register 0010H, the offset. */
+    static const uint8_t loopback[] = {0x01, 0x08, 0x00, 0x00, 0x1F, 0x34, 0xE9, 0xEC};
+    static const uint8_t read_offset[] = {0x01, 0x03, 0x00, 0x10, 0x00, 0x01, 0x85, 0xCF};
+
+    start();
+    measured(125);
+    for (size_t i = 0; i < sizeof heard; i++)
+        rkc_received(heard[i], 1000);
+    rkc_silent(3999);
+    rkc_silent(4000);
+    rtu_received(loopback, sizeof loopback);
+    rtu_received(read_offset, sizeof read_offset);
+    return 0;
+}
