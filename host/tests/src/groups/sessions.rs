@@ -1,10 +1,9 @@
+use super::blocks::block;
 use crate::compare::{Checked, Compare};
 use crate::instrument::Instrument;
 use crate::random::Random;
-use crate::shapes::{any_value, identifier};
-use reference::items::ITEMS;
-use reference::line::{bcc, ACK, ENQ, EOT, ETX, NAK, STX};
-use reference::number;
+use crate::shapes::identifier;
+use reference::line::{ACK, ENQ, EOT, ETX, NAK, STX};
 
 /// What a host program that keeps the rules sends, with much that is refused.
 pub fn whole(compare: &mut Compare, random: &mut Random) -> Checked<()> {
@@ -71,7 +70,7 @@ fn moved(random: &mut Random, address: u8) -> Vec<u8> {
     match random.below(10) {
         0..=2 => poll(random, address),
         3..=5 => answers(random),
-        6..=8 => block(random, address),
+        6..=8 => selected(random, address),
         _ => vec![random.pick(&[EOT, STX, ETX, ENQ, ACK, NAK, b'0', 0x7F, 0])],
     }
 }
@@ -106,84 +105,12 @@ fn answers(random: &mut Random) -> Vec<u8> {
 }
 
 /// A block, or a second one behind an answer, which needs no address.
-fn block(random: &mut Random, address: u8) -> Vec<u8> {
+fn selected(random: &mut Random, address: u8) -> Vec<u8> {
     let mut characters = if random.one_in(4) {
         vec![]
     } else {
         called(random, address)
     };
-    let mut checked = text(random);
-    checked.push(ETX);
-    let check = check_of(random, &checked);
-    characters.push(STX);
-    characters.extend(checked);
-    characters.push(check);
+    characters.extend(block(random));
     characters
-}
-
-/// The right BCC more often than not; else one that a host might work out wrongly, EOT, or any.
-fn check_of(random: &mut Random, checked: &[u8]) -> u8 {
-    let right = bcc(checked);
-    match random.below(12) {
-        0 => EOT,
-        1 => right ^ STX,
-        2 => right ^ ETX,
-        3 => right ^ (1 << random.below(7)),
-        4 => random.byte() & 0x7F,
-        _ => right,
-    }
-}
-
-/// The text of a block: an identifier and data, or less. A text whose BCC is EOT is looked for now
-/// and then.
-fn text(random: &mut Random) -> Vec<u8> {
-    let tries = if random.one_in(4) { 50 } else { 1 };
-    let mut text = vec![];
-    for _ in 0..tries {
-        text = any_text(random);
-        if bcc(&text) ^ ETX == EOT {
-            break;
-        }
-    }
-    text
-}
-
-fn any_text(random: &mut Random) -> Vec<u8> {
-    if random.one_in(12) {
-        return random.some_bytes(3).iter().map(|b| b & 0x7F).collect();
-    }
-    let mut text = identifier(random).to_vec();
-    match random.below(6) {
-        0 => text.extend(symbols(random, 9)),
-        1 => text.extend(symbols(random, 6)),
-        _ => text.extend(value_text(random, &text)),
-    }
-    text
-}
-
-/// Characters of which some make a number.
-fn symbols(random: &mut Random, most: usize) -> Vec<u8> {
-    let length = random.below(most + 1);
-    (0..length)
-        .map(|_| random.pick(b"-.0123456789.-+ \x02\x7F"))
-        .collect()
-}
-
-/// A value in or beside the range of the item with this identifier, in one of the ways that it can
-/// be written.
-fn value_text(random: &mut Random, id: &[u8]) -> Vec<u8> {
-    let item = reference::items::with_id(id).unwrap_or(9);
-    let decimals = ITEMS[item - 1].decimals;
-    let value = any_value(random, item);
-    let mut text = match number::write(decimals, value) {
-        Ok(six) => six.to_vec(),
-        Err(_) => value.to_string().into_bytes(),
-    };
-    if random.one_in(2) {
-        let start = usize::from(text[0] == b'-');
-        while text.len() > start + 1 && text[start] == b'0' {
-            text.remove(start);
-        }
-    }
-    text
 }

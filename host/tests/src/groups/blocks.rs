@@ -1,0 +1,129 @@
+use crate::compare::{Checked, Compare};
+use crate::instrument::Instrument;
+use crate::random::Random;
+use crate::shapes::{any_value, good_value, identifier, BCC_DUE};
+use reference::items::{with_id, ITEMS};
+use reference::line::{bcc, EOT, ETX, STX};
+use reference::number;
+
+/// Each item is set to each value of its range, and to the values beside it.
+pub fn every_value(compare: &mut Compare, random: &mut Random) -> Checked<()> {
+    for row in &ITEMS {
+        for value in row.low - 1..=row.high + 1 {
+            let mut text = row.id.to_vec();
+            text.extend(written(random, row.decimals, value));
+            let check = bcc(&text) ^ ETX;
+            judged(compare, random, &text, check)?;
+        }
+    }
+    Ok(())
+}
+
+/// Blocks of any text with any BCC.
+pub fn any(compare: &mut Compare, random: &mut Random) -> Checked<()> {
+    for _ in 0..150_000 {
+        let text = text(random);
+        let check = check_of(random, &text);
+        judged(compare, random, &text, check)?;
+    }
+    Ok(())
+}
+
+/// A link that has taken in a text and its ETX receives a BCC.
+fn judged(compare: &mut Compare, random: &mut Random, text: &[u8], check: u8) -> Checked<()> {
+    let mut instrument = Instrument::any(random);
+    let kept = &text[..text.len().min(8)];
+    instrument.state[0] = BCC_DUE;
+    instrument.state[2] = text.len().min(9) as u8;
+    instrument.state[3] = bcc(text) ^ ETX;
+    instrument.state[12..12 + kept.len()].copy_from_slice(kept);
+    let byte = instrument.sent(check);
+    instrument.byte(compare, random, byte)?;
+    Ok(())
+}
+
+/// STX, a text, ETX and a BCC.
+pub fn block(random: &mut Random) -> Vec<u8> {
+    let text = text(random);
+    let check = check_of(random, &text);
+    let mut characters = vec![STX];
+    characters.extend(text);
+    characters.push(ETX);
+    characters.push(check);
+    characters
+}
+
+/// The right BCC more often than not; else one that a host might work out wrongly, EOT, or any.
+fn check_of(random: &mut Random, text: &[u8]) -> u8 {
+    let right = bcc(text) ^ ETX;
+    match random.below(12) {
+        0 => EOT,
+        1 => right ^ STX,
+        2 => right ^ ETX,
+        3 => right ^ (1 << random.below(7)),
+        4 => random.byte() & 0x7F,
+        _ => right,
+    }
+}
+
+/// The text of a block. Now and then one is looked for whose BCC is EOT.
+fn text(random: &mut Random) -> Vec<u8> {
+    let tries = if random.one_in(4) { 50 } else { 1 };
+    let mut text = any_text(random);
+    for _ in 1..tries {
+        if bcc(&text) ^ ETX == EOT {
+            break;
+        }
+        text = any_text(random);
+    }
+    text
+}
+
+/// An identifier with data of some kind, or less than that.
+fn any_text(random: &mut Random) -> Vec<u8> {
+    if random.one_in(12) {
+        return random.some_bytes(3).iter().map(|b| b & 0x7F).collect();
+    }
+    let id = identifier(random);
+    let mut text = id.to_vec();
+    match random.below(6) {
+        0 => text.extend(symbols(random, 9)),
+        1 => text.extend(symbols(random, 6)),
+        _ => text.extend(number_for(random, id)),
+    }
+    text
+}
+
+/// Characters of which some make a number.
+fn symbols(random: &mut Random, most: usize) -> Vec<u8> {
+    let length = random.below(most + 1);
+    (0..length)
+        .map(|_| random.pick(b"-.0123456789.-+ \x02\x7F"))
+        .collect()
+}
+
+/// A number in or around the range of the item with this identifier.
+fn number_for(random: &mut Random, id: [u8; 2]) -> Vec<u8> {
+    let item = with_id(&id).unwrap_or(1);
+    let value = match random.below(3) {
+        0 => any_value(random, item),
+        _ => good_value(random, item),
+    };
+    written(random, ITEMS[item - 1].decimals, value)
+}
+
+/// A value as number text, often without its zeros on the left. One that does not fit is written
+/// out in full, which is too long or another number.
+fn written(random: &mut Random, decimals: u8, value: i32) -> Vec<u8> {
+    let mut text = match number::write(decimals, value) {
+        Ok(six) => six.to_vec(),
+        Err(_) => value.to_string().into_bytes(),
+    };
+    if random.one_in(2) {
+        let start = usize::from(text[0] == b'-');
+        while text.len() > start + 1 && text[start] == b'0' {
+            text.remove(start);
+        }
+    }
+    text
+}
