@@ -26,3 +26,5 @@ example: $(library)
 	host/build/program target/host/example host/example/example.c
 	host/build/run target/host/example >target/host/example.stdout
 	diff host/example/stdout target/host/example.stdout
+
+include host/sim.mk

@@ -1,0 +1,60 @@
+/* The Modbus RTU line: a frame is what stands between two silences. */
+#include "panel.h"
+
+#include <string.h>
+
+#include "show.h"
+#include "vennebruis.h"
+
+/* One byte more than the longest frame, so that a longer one is still seen to be too long. */
+enum { FRAME_ROOM = 257 };
+
+enum { NO_LIMIT = -1 };
+
+struct frame {
+    uint8_t bytes[FRAME_ROOM];
+    size_t length;
+};
+
+/* Adds bytes to the frame as far as there is room; what comes after that is not looked at. */
+static void add(struct frame *frame, const uint8_t *bytes, size_t count) {
+    size_t room = FRAME_ROOM - frame->length;
+    size_t taken = count < room ? count : room;
+    memcpy(frame->bytes + frame->length, bytes, taken);
+    frame->length += taken;
+}
+
+static void answer(struct panel *panel, const struct line *line, const struct options *options,
+                   const struct frame *frame) {
+    uint32_t result = vb_rtu(panel->table, TABLE_ENTRIES, panel->reply, REPLY_ROOM,
+                             options->address, frame->bytes, frame->length);
+    size_t length = result_length(result);
+    line_send(line, panel->reply, length);
+    if (options->show) {
+        show_frame("request", (struct bytes){frame->bytes, frame->length});
+        show_number(result_number(result));
+        show_frame("reply", (struct bytes){panel->reply, length});
+    }
+}
+
+void serve_rtu(struct panel *panel, struct line *line, const struct options *options) {
+    struct frame frame = {.length = 0};
+    for (;;) {
+        uint8_t bytes[FRAME_ROOM];
+        size_t count;
+        int limit = frame.length == 0 ? NO_LIMIT : options->silence_ms;
+        switch (line_hear(line, bytes, sizeof bytes, limit, &count)) {
+        case HEARD_BYTES:
+            add(&frame, bytes, count);
+            break;
+        case HEARD_SILENCE:
+            if (frame.length > 0) {
+                answer(panel, line, options, &frame);
+                frame.length = 0;
+            }
+            break;
+        case HEARD_END:
+            return;
+        }
+    }
+}

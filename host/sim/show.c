@@ -1,0 +1,89 @@
+#include "show.h"
+
+#include <ctype.h>
+#include <stdio.h>
+
+struct row {
+    unsigned number;
+    const char *words;
+};
+
+static const struct row meanings[] = {
+    {0, "as asked"},
+    {1, "table not twelve entries long"},
+    {2, "table entry outside its range"},
+    {3, "reply buffer under 256 bytes"},
+    {4, "address or structure outside its limits"},
+    {5, "link state outside its limits"},
+    {11, "line error in the block"},
+    {12, "wrong BCC"},
+    {13, "block of under two characters"},
+    {14, "block for an unknown identifier"},
+    {15, "over six data characters"},
+    {16, "no number"},
+    {17, "item is read-only"},
+    {18, "value out of range"},
+    {21, "frame too short or too long"},
+    {22, "wrong CRC"},
+    {23, "for another address"},
+    {31, "exception 1, unknown function"},
+    {32, "exception 2, no such register, or not to be written"},
+    {33, "exception 3, value, quantity, test code or length not allowed"},
+    {41, "character that does not belong in a poll"},
+    {42, "poll of an unknown identifier"},
+    {43, "neither ACK nor NAK nor EOT after a reply"},
+    {44, "host silent for three seconds"},
+    {45, "end of the item list"},
+    {46, "value does not fit six characters"},
+};
+
+static const struct row controls[] = {
+    {0x02, "STX"}, {0x03, "ETX"}, {0x04, "EOT"}, {0x05, "ENQ"}, {0x06, "ACK"}, {0x15, "NAK"},
+};
+
+static const char *find(const struct row *rows, size_t count, unsigned number) {
+    for (size_t i = 0; i < count; i++) {
+        if (rows[i].number == number) {
+            return rows[i].words;
+        }
+    }
+    return NULL;
+}
+
+static void show_hex(const char *title, struct bytes bytes) {
+    fprintf(stderr, "%-7s", title);
+    if (bytes.length == 0) {
+        fputs(" none", stderr);
+    }
+    for (size_t i = 0; i < bytes.length; i++) {
+        fprintf(stderr, " %02X", bytes.first[i]);
+    }
+}
+
+void show_frame(const char *title, struct bytes bytes) {
+    show_hex(title, bytes);
+    fputs("\n", stderr);
+}
+
+static void show_character(unsigned character) {
+    const char *name = find(controls, sizeof controls / sizeof controls[0], character);
+    if (name != NULL) {
+        fprintf(stderr, "<%s>", name);
+    } else {
+        fputc(isprint((int)character) ? (int)character : '.', stderr);
+    }
+}
+
+void show_characters(const char *title, struct bytes bytes) {
+    show_hex(title, bytes);
+    fputs(bytes.length == 0 ? "" : "  ", stderr);
+    for (size_t i = 0; i < bytes.length; i++) {
+        show_character(bytes.first[i] & 0x7Fu);
+    }
+    fputs("\n", stderr);
+}
+
+void show_number(unsigned number) {
+    const char *words = find(meanings, sizeof meanings / sizeof meanings[0], number);
+    fprintf(stderr, "number  %u, %s\n", number, words != NULL ? words : "not in the list");
+}

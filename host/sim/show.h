@@ -1,0 +1,23 @@
+/* Traffic on standard error, for someone who looks on. */
+#ifndef SHOW_H
+#define SHOW_H
+
+#include <stddef.h>
+#include <stdint.h>
+
+/* Bytes of one direction. */
+struct bytes {
+    const uint8_t *first;
+    size_t length;
+};
+
+/* Bytes in hex. */
+void show_frame(const char *title, struct bytes bytes);
+
+/* Bytes in hex and as characters without their top bit, control characters by name. */
+void show_characters(const char *title, struct bytes bytes);
+
+/* The number given back, in words too. */
+void show_number(unsigned number);
+
+#endif
