@@ -14,8 +14,8 @@ static const char help[] =
     "\n"
     "  rtu             answers Modbus RTU frames\n"
     "  rkc             answers RKC polling and selecting\n"
-    "  DEVICE          a serial device, used with 8 data bits, no parity, one stop bit; without\n"
-    "                  it a new pseudo-terminal, whose name is printed\n"
+    "  DEVICE          a serial device, used with 8 data bits, no parity, one stop bit;\n"
+    "                  without it a new pseudo-terminal\n"
     "\n"
     "  --address N     the panel's address: 1 to 99, on the RKC line 0 to 99 (1)\n"
     "  --structure S   RKC line structure: 0 eight bits, 1 even parity, 2 odd parity (0)\n"
@@ -26,6 +26,7 @@ static const char help[] =
     "  -v, --verbose   shows each request, its number and the reply on standard error\n"
     "  -h, --help      this text\n"
     "\n"
+    "The name of the device or pseudo-terminal is printed when it is ready.\n"
     "It goes on until SIGINT, SIGTERM or SIGHUP comes or the device goes away, with status 0.\n"
     "Status 1: the line could not be had. Status 2: a bad command line.\n";
 

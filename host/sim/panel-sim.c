@@ -35,10 +35,9 @@ int main(int argc, char **argv) {
     if (!line_open(&line, &options)) {
         return STATUS_NO_LINE;
     }
-    if (line.pseudo) {
-        puts(line.name);
-        fflush(stdout);
-    }
+    /* Whoever started it can go ahead from here. */
+    puts(line.pseudo ? line.name : options.device);
+    fflush(stdout);
     serve(&line, &options);
     line_close(&line);
     return STATUS_DONE;

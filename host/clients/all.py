@@ -1,0 +1,35 @@
+"""All clients in turn: all.py COMMAND.., the words that start the simulator."""
+
+import signal
+import sys
+
+import modbus_checks
+import program_checks
+import rkc_checks
+from checks import Checks
+from mbpoll_client import Mbpoll
+from pymodbus_client import Pymodbus
+
+
+def give_up(*_):
+    """The time for all is over. An exception ends the simulator that is running, too."""
+    raise SystemExit(1)
+
+
+def main():
+    command = sys.argv[1:]
+    checks = Checks()
+    signal.signal(signal.SIGTERM, give_up)
+    try:
+        program_checks.run(checks, command)
+        modbus_checks.run(checks, command, Mbpoll)
+        modbus_checks.run(checks, command, Pymodbus)
+        rkc_checks.run(checks, command)
+    except SystemExit:
+        checks.fail("all", "the time is over")
+    checks.total()
+    return 0 if checks.failed == 0 else 1
+
+
+if __name__ == "__main__":
+    sys.exit(main())

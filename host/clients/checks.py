@@ -1,0 +1,81 @@
+"""Counting of checks, and the simulator as a process that never outlives them."""
+
+import contextlib
+import select
+import subprocess
+
+START_SECONDS = 10
+END_SECONDS = 5
+
+
+class Checks:
+    """Prints a line for each check and counts."""
+
+    def __init__(self):
+        self.passed = 0
+        self.failed = 0
+        self.client = ""
+
+    def same(self, name, got, expected):
+        """Passes where what was got is what was expected."""
+        if got == expected:
+            self.passed += 1
+            print(f"ok      {self.client}: {name}", flush=True)
+        else:
+            self.fail(name, f"got {got!r}, expected {expected!r}")
+
+    def fail(self, name, why):
+        self.failed += 1
+        print(f"FAILED  {self.client}: {name}: {why}", flush=True)
+
+    @contextlib.contextmanager
+    def of(self, client):
+        """The checks of one client. What breaks off is one failed check, and the next goes on."""
+        self.client = client
+        try:
+            yield
+        except Exception as broken:  # pylint: disable=broad-except
+            self.fail("breaks off", f"{type(broken).__name__}: {broken}")
+
+    def total(self):
+        print(f"{self.passed} passed, {self.failed} failed", flush=True)
+
+
+class Simulator:
+    """A simulator that is ready and runs. `port` is the name of its line; `shown`, a file, takes
+    what it shows."""
+
+    def __init__(self, command, *words, shown=None):
+        self.process = subprocess.Popen(
+            [*command, *words],
+            stdin=subprocess.DEVNULL,
+            stdout=subprocess.PIPE,
+            stderr=shown,
+            text=True,
+        )
+        ready, _, _ = select.select([self.process.stdout], [], [], START_SECONDS)
+        self.port = self.process.stdout.readline().strip() if ready else ""
+        if not self.port:
+            self.end()
+            raise RuntimeError("the simulator does not start")
+
+    def __enter__(self):
+        return self
+
+    def __exit__(self, *_):
+        self.end()
+
+    def wait(self):
+        """The status with which it ends by itself. It is made to end where it doesn't."""
+        try:
+            return self.process.wait(END_SECONDS)
+        except subprocess.TimeoutExpired:
+            self.process.kill()
+            return self.process.wait()
+        finally:
+            self.process.stdout.close()
+
+    def end(self):
+        """The status with which it ends when asked to."""
+        self.process.terminate()
+        return self.wait()

@@ -1,0 +1,105 @@
+"""The simulator as a program: its command line, a device in the place of a pseudo-terminal, a
+link, and what it shows."""
+
+import contextlib
+import os
+import pty
+import subprocess
+import tempfile
+import termios
+
+from checks import Simulator
+from rkc_host import Host, open_port
+
+STEP_SECONDS = 5
+
+BAD_COMMAND_LINES = (
+    "",
+    "rtc",
+    "rtu one two",
+    "rtu --address 0",
+    "rkc --address 100",
+    "rkc --structure 3",
+    "rtu --structure 1",
+    "rtu --baud 9601",
+    "rtu --silence 0",
+    "rtu --unheard-of",
+)
+
+# A block that sets PB to "-8", with a BCC that looks like EOT, then a poll of PB.
+QUESTION = bytes.fromhex("04 30 31 02 50 42 2D 38 03 04 04 30 31 50 42 05")
+ANSWER = bytes.fromhex("06 02 50 42 2D 30 38 2E 30 30 03 1A")
+
+LOOPBACK = bytes.fromhex("01 08 00 00 1F 34 E9 EC")
+
+
+def run_once(command, words):
+    """A run that ends at once: its status, standard output and standard error."""
+    done = subprocess.run(
+        [*command, *words.split()],
+        stdin=subprocess.DEVNULL,
+        capture_output=True,
+        text=True,
+        timeout=STEP_SECONDS,
+        check=False,
+    )
+    return done.returncode, done.stdout, done.stderr
+
+
+def command_line(checks, command):
+    for words in BAD_COMMAND_LINES:
+        status, output, message = run_once(command, words)
+        checks.same(f'"{words}" is refused', (status, output, message != ""), (2, "", True))
+    status, output, message = run_once(command, "--help")
+    checks.same("--help", (status, "usage:" in output, message), (0, True, ""))
+    status, output, message = run_once(command, "rtu no-such-device")
+    checks.same("a device that is not there", (status, output, message != ""), (1, "", True))
+
+
+def link(checks, command):
+    """A link to the pseudo-terminal, and one client after the other on it."""
+    with tempfile.TemporaryDirectory() as folder:
+        path = os.path.join(folder, "panel")
+        with Simulator(command, "rkc", "--link", path) as simulator:
+            checks.same("the link leads to the port", os.path.realpath(path), simulator.port)
+            for client in ("first", "second"):
+                with contextlib.closing(Host(open_port(path))) as host:
+                    host.send_bytes(QUESTION)
+                    got = host.hear_bytes(len(ANSWER))
+                    checks.same(f"answer to the {client} client", got, ANSWER)
+            simulator.end()
+            checks.same("no link is left", os.path.lexists(path), False)
+
+
+def device(checks, command):
+    """A device: settings are put back at the end, and its going away is an end."""
+    hosts_end, panels_end = pty.openpty()
+    found = termios.tcgetattr(panels_end)
+    name = os.ttyname(panels_end)
+    with contextlib.closing(Host(hosts_end)) as host:
+        with Simulator(command, "rtu", name, "--baud", "1200") as simulator:
+            host.send_bytes(LOOPBACK)
+            checks.same("answer on a device", host.hear_bytes(len(LOOPBACK)), LOOPBACK)
+            checks.same("end on SIGTERM", simulator.end(), 0)
+            checks.same("settings put back", termios.tcgetattr(panels_end), found)
+        os.close(panels_end)
+        simulator = Simulator(command, "rkc", name)
+    checks.same("end when the device goes away", simulator.wait(), 0)
+
+
+def showing(checks, command):
+    with tempfile.TemporaryFile("w+") as shown:
+        with Simulator(command, "rtu", "-v", shown=shown) as simulator:
+            with contextlib.closing(Host(open_port(simulator.port))) as host:
+                host.send_bytes(LOOPBACK)
+                host.hear_bytes(len(LOOPBACK))
+        shown.seek(0)
+        frame = LOOPBACK.hex(" ").upper()
+        expected = [f"request {frame}", "number  0, as asked", f"reply   {frame}"]
+        checks.same("what -v shows", shown.read().splitlines(), expected)
+
+
+def run(checks, command):
+    for part in (command_line, link, device, showing):
+        with checks.of("program"):
+            part(checks, command)
