@@ -12,21 +12,22 @@ from pymodbus_client import Pymodbus
 
 
 def give_up(*_):
-    """The time for all is over. An exception ends the simulator that is running, too."""
-    raise SystemExit(1)
+    """The time is over, or somebody interrupts. As an exception it ends the simulator, too."""
+    raise SystemExit
 
 
 def main():
     command = sys.argv[1:]
     checks = Checks()
-    signal.signal(signal.SIGTERM, give_up)
+    for wish in (signal.SIGTERM, signal.SIGINT):
+        signal.signal(wish, give_up)
     try:
         program_checks.run(checks, command)
         modbus_checks.run(checks, command, Mbpoll)
         modbus_checks.run(checks, command, Pymodbus)
         rkc_checks.run(checks, command)
     except SystemExit:
-        checks.fail("all", "the time is over")
+        checks.fail("the rest", "broken off")
     checks.total()
     return 0 if checks.failed == 0 else 1
 

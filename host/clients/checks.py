@@ -4,7 +4,7 @@ import contextlib
 import select
 import subprocess
 
-START_SECONDS = 10
+START_SECONDS = 5
 END_SECONDS = 5
 
 
@@ -53,11 +53,19 @@ class Simulator:
             stderr=shown,
             text=True,
         )
-        ready, _, _ = select.select([self.process.stdout], [], [], START_SECONDS)
-        self.port = self.process.stdout.readline().strip() if ready else ""
-        if not self.port:
+        try:
+            self.port = self.first_line()
+        except BaseException:
             self.end()
+            raise
+
+    def first_line(self):
+        """The name of its line, which it prints when it is ready."""
+        ready, _, _ = select.select([self.process.stdout], [], [], START_SECONDS)
+        name = self.process.stdout.readline().strip() if ready else ""
+        if not name:
             raise RuntimeError("the simulator does not start")
+        return name
 
     def __enter__(self):
         return self

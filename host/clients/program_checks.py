@@ -95,7 +95,7 @@ def showing(checks, command):
                 host.hear_bytes(len(LOOPBACK))
         shown.seek(0)
         frame = LOOPBACK.hex(" ").upper()
-        expected = [f"request {frame}", "number  0, as asked", f"reply   {frame}"]
+        expected = [f"request {frame}", "number  0, no fault", f"reply   {frame}"]
         checks.same("what -v shows", shown.read().splitlines(), expected)
 
 

@@ -15,9 +15,11 @@ NOTHING = b""
 # How long to listen where no reply is due.
 QUIET_SECONDS = 0.3
 
-# A host that is silent for three seconds loses the line; the panel looks every now and then.
+# A host that is silent for three seconds loses the line. The panel counts whole milliseconds, and
+# a busy machine may be late.
 PATIENCE_SECONDS = 3.0
-PATIENCE_LATE_SECONDS = 0.5
+CLOCK_STEP_SECONDS = 0.001
+LATE_SECONDS = 1.0
 
 
 def polling(checks, host):
@@ -83,13 +85,12 @@ def line_errors(checks, host):
 
 def silence(checks, host):
     """Three seconds after its reply the panel sends EOT, and takes ACK no more."""
-    host.poll("M1")
     start = time.monotonic()
-    got = host.hear(1, PATIENCE_SECONDS + PATIENCE_LATE_SECONDS)
+    host.poll("M1")
+    got = host.hear(1, PATIENCE_SECONDS + LATE_SECONDS)
     waited = time.monotonic() - start
     checks.same("three seconds of silence", got, ENDED)
-    early = waited < PATIENCE_SECONDS - 0.1
-    checks.same(f"not before they are over ({waited:.2f} s)", early, False)
+    checks.same(f"not sooner ({waited:.2f} s)", waited > PATIENCE_SECONDS - CLOCK_STEP_SECONDS, True)
     host.send([ACK])
     checks.same("ACK after that", host.hear(1, QUIET_SECONDS), NOTHING)
 

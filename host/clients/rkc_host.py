@@ -16,7 +16,7 @@ NAK = 0x15
 # STX, identifier, six characters, ETX, BCC.
 REPLY_LENGTH = 11
 
-REPLY_SECONDS = 1
+REPLY_SECONDS = 2
 
 
 class LineFault(Exception):

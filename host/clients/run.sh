@@ -24,4 +24,5 @@ done
 command -v mbpoll >/dev/null || missing 'mbpoll'
 command -v "$1" >/dev/null || missing "$1"
 
-exec timeout --kill-after=5 "$limit_seconds" "$python" -B "$(dirname "$0")/all.py" "$@"
+# In the foreground, so that an interrupt from the keyboard reaches it.
+exec timeout --foreground --kill-after=5 "$limit_seconds" "$python" -B "$(dirname "$0")/all.py" "$@"

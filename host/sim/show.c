@@ -9,7 +9,7 @@ struct row {
 };
 
 static const struct row meanings[] = {
-    {0, "as asked"},
+    {0, "no fault"},
     {1, "table not twelve entries long"},
     {2, "table entry outside its range"},
     {3, "reply buffer under 256 bytes"},
