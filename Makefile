@@ -1,9 +1,15 @@
 # `make test` is the gate: every proof, every must-fail edit, every program and every test around the library. Its last
 # line is `N passed, M failed`.
-.PHONY: test reference compare example
+.PHONY: test run reference compare example
 
 test:
 	@host/gate
+
+# Proves the bench program, runs it on the worked example of document 01 and shows both sides in hex.
+run:
+	rt check bench
+	@echo 'from the host:' && od -An -tx1 crates/bench/stdin
+	@echo 'from the panel:' && host/build/run target/bin/bench <crates/bench/stdin | od -An -tx1
 
 # The library that firmware links.
 library = target/staticlib/libpanel.a

@@ -2,7 +2,7 @@
 #
 # The static library holds x86-64 objects. On another machine the simulator is built as an x86-64
 # program, linked statically so that it needs no x86-64 libraries there, and run by an emulator.
-SIM_LIBRARY ?= target/staticlib/libpanel.a
+SIM_LIBRARY ?= $(library)
 SIM_INCLUDE ?= host/include
 ifeq ($(shell uname -m),x86_64)
 SIM_CC ?= gcc
@@ -29,9 +29,6 @@ sim: $(SIM_PROGRAM)
 $(SIM_PROGRAM): $(SIM_SOURCES) $(SIM_HEADERS) $(SIM_LIBRARY)
 	@mkdir -p $(@D)
 	$(SIM_CC) $(SIM_CFLAGS) $(SIM_LINK) -I$(SIM_INCLUDE) -o $@ $(SIM_SOURCES) $(SIM_LIBRARY)
-
-target/staticlib/libpanel.a: $(wildcard crates/*/src/*.rt)
-	rt staticlib panel
 
 # Runs real clients on the simulator, over pseudo-terminals; the last line is `N passed, M failed`.
 clients: $(SIM_PROGRAM)

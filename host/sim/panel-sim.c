@@ -11,8 +11,8 @@ enum { STATUS_DONE = 0, STATUS_NO_LINE = 1, STATUS_BAD_USAGE = 2 };
 
 static void serve(struct line *line, const struct options *options) {
     struct panel panel = {.reply = {0}};
-    vb_start_table(panel.table, TABLE_ENTRIES);
-    vb_start_link(panel.state, STATE_BYTES);
+    vb_start_table(panel.table, VB_TABLE_ENTRIES);
+    vb_start_link(panel.state, VB_STATE_BYTES);
     if (options->speech == SPEECH_RTU) {
         serve_rtu(&panel, line, options);
     } else {

@@ -7,18 +7,13 @@
 
 #include "line.h"
 #include "options.h"
-
-enum { TABLE_ENTRIES = 12, STATE_BYTES = 24, REPLY_ROOM = 256 };
+#include "vennebruis.h"
 
 struct panel {
-    int32_t table[TABLE_ENTRIES];
-    uint8_t state[STATE_BYTES];
-    uint8_t reply[REPLY_ROOM];
+    int32_t table[VB_TABLE_ENTRIES];
+    uint8_t state[VB_STATE_BYTES];
+    uint8_t reply[VB_REPLY_BYTES];
 };
-
-/* A result of the library taken apart: number + 256 * reply length. */
-static inline unsigned result_number(uint32_t result) { return result % 256; }
-static inline size_t result_length(uint32_t result) { return result / 256; }
 
 /* Answer until the line ends. */
 void serve_rtu(struct panel *panel, struct line *line, const struct options *options);

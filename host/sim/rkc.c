@@ -36,8 +36,8 @@ static void show(struct request *request, unsigned number, struct bytes reply) {
 /* Sends what a step replied, and shows a step that did something. */
 static void finish(const struct panel *panel, const struct line *line,
                    const struct options *options, struct request *request, uint32_t result) {
-    unsigned number = result_number(result);
-    size_t length = result_length(result);
+    unsigned number = VB_NUMBER(result);
+    size_t length = VB_LENGTH(result);
     line_send(line, panel->reply, length);
     if (options->show && (number != 0 || length > 0 || request->length == REQUEST_ROOM)) {
         show(request, number, (struct bytes){panel->reply, length});
@@ -47,8 +47,8 @@ static void finish(const struct panel *panel, const struct line *line,
 static void take(struct panel *panel, const struct line *line, const struct options *options,
                  struct request *request, uint8_t byte) {
     uint32_t result =
-        vb_byte(panel->state, STATE_BYTES, panel->table, TABLE_ENTRIES, panel->reply, REPLY_ROOM,
-                options->address, options->structure, milliseconds(), byte);
+        vb_byte(panel->state, VB_STATE_BYTES, panel->table, VB_TABLE_ENTRIES, panel->reply,
+                VB_REPLY_BYTES, options->address, options->structure, milliseconds(), byte);
     if (options->show) {
         request->bytes[request->length] = byte;
         request->length += 1;
@@ -58,7 +58,7 @@ static void take(struct panel *panel, const struct line *line, const struct opti
 
 static void idle(struct panel *panel, const struct line *line, const struct options *options,
                  struct request *request) {
-    uint32_t result = vb_idle(panel->state, STATE_BYTES, panel->reply, REPLY_ROOM,
+    uint32_t result = vb_idle(panel->state, VB_STATE_BYTES, panel->reply, VB_REPLY_BYTES,
                               options->structure, milliseconds());
     finish(panel, line, options, request, result);
 }

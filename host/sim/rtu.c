@@ -26,13 +26,13 @@ static void add(struct frame *frame, const uint8_t *bytes, size_t count) {
 
 static void answer(struct panel *panel, const struct line *line, const struct options *options,
                    const struct frame *frame) {
-    uint32_t result = vb_rtu(panel->table, TABLE_ENTRIES, panel->reply, REPLY_ROOM,
+    uint32_t result = vb_rtu(panel->table, VB_TABLE_ENTRIES, panel->reply, VB_REPLY_BYTES,
                              options->address, frame->bytes, frame->length);
-    size_t length = result_length(result);
+    size_t length = VB_LENGTH(result);
     line_send(line, panel->reply, length);
     if (options->show) {
         show_frame("request", (struct bytes){frame->bytes, frame->length});
-        show_number(result_number(result));
+        show_number(VB_NUMBER(result));
         show_frame("reply", (struct bytes){panel->reply, length});
     }
 }
