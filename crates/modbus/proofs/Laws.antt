@@ -1,0 +1,93 @@
+-- What holds of every message, over the one definition of what comes of it: the reply is short, a number leaves the table, no
+-- message changes a read-only item, and a good table stays good.
+-- Assumes nothing.
+use mathlib.Core.Path.{_≡_, refl}
+use mathlib.Core.Bool.{Bool, true, false, cond}
+use mathlib.Core.List.{List, []}
+use Prim.Native.Nat.{ℕ, _≤_, _<_}
+use native.Mathlib.Omega.{arith}
+use borrow.Author.Tests.{eqb-true, eqb-false}
+use lib.Dec.{eqb}
+use lib.IntN.{ℤ}
+use lib.ListN.{length}
+use Rattle.items.specs.ItemList.{itemAt}
+use Rattle.items.specs.Table.{none, goodTable, entry}
+use Rattle.items.proofs.Laws.{good-stored, stored-read-only}
+use Rattle.modbus.specs.Outcome.{Outcome, otherAddress, unknownFunction, functionOf, silent, done, exceptionReply, exception, unlessFault}
+use Rattle.modbus.specs.Rules.{readRegisters, writeRegister, loopback, firstWord, secondWord, readFault, readReply, reading, writeFault, written, writing, loopbackFault, loopingBack, obeying, ours, acted}
+use Rattle.modbus.proofs.Stores.{length-registers}
+use Rattle.modbus.proofs.Faults.{Numbered, read-numbered, write-numbered, loopback-numbered, read-accepted, write-accepted, loopback-accepted}
+
+-- ---- by cases
+
+-- what holds of an outcome in either case
+pub by-test : (P : Outcome → Type 0) (b : Bool) {o p : Outcome} → (b ≡ true → P o) → (b ≡ false → P p) → P (cond b o p)
+by-test P true h k = h refl
+by-test P false h k = k refl
+
+-- what holds of every exception, and of the outcome where no fault is met
+by-fault : (P : Outcome → Type 0) (fault : ℕ) (t : List ℤ) (body : List ℕ) {o : Outcome} → Numbered fault
+    → ((number : ℕ) → 30 < number → P (exception number t body)) → (fault ≡ none → P o) → P (unlessFault fault t body o)
+unfolding unlessFault
+by-fault P fault t body n e d =
+    by-test P (eqb fault none) (λ q. d (eqb-true fault none q)) (λ q. e fault (n (eqb-false fault none q)))
+
+-- what holds of silence, of every exception and of what each function does holds of every message
+pub every : (P : Outcome → Type 0) (t : List ℤ) (address : ℕ) (body : List ℕ) → P (silent otherAddress t)
+    → ((number : ℕ) → 30 < number → P (exception number t body))
+    → (readFault body ≡ none → P (done (readReply t body) t))
+    → (writeFault body ≡ none → P (done body (written t body)))
+    → (loopbackFault body ≡ none → P (done body t))
+    → P (acted t address body)
+unfolding acted obeying reading writing loopingBack
+every P t address body s e r w l =
+    by-test P (ours address body)
+    (λ q. by-test P (eqb (functionOf body) readRegisters) (λ q. by-fault P (readFault body) t body (read-numbered body) e r)
+    (λ q. by-test P (eqb (functionOf body) writeRegister) (λ q. by-fault P (writeFault body) t body (write-numbered body) e w)
+    (λ q. by-test P (eqb (functionOf body) loopback) (λ q. by-fault P (loopbackFault body) t body (loopback-numbered body) e l)
+    (λ q. e unknownFunction (omega arith)))))
+    (λ q. s)
+
+-- ---- the laws
+
+module _ (t : List ℤ) (address : ℕ) (body : List ℕ) where
+  -- a reply has at most 253 bytes: with the two that a line adds it has room in every buffer that is accepted
+  pub reply-short : length (acted t address body .reply) ≤ 253
+  unfolding exceptionReply readReply
+  reply-short =
+      every (λ (o : Outcome). length (o .reply) ≤ 253) t address body (omega arith) (λ number h. omega arith)
+      (λ q. let r = read-accepted body q in omega (arith, length-registers t (firstWord body) (secondWord body)))
+      (λ q. let w = write-accepted body q in omega arith)
+      (λ q. let l = loopback-accepted body q in omega arith)
+
+  -- a message that is given a number, 23 or an exception, leaves the table
+  pub number-leaves-table : (acted t address body .number ≡ none → ⊥) → acted t address body .table ≡ t
+  number-leaves-table =
+      every (λ (o : Outcome). (o .number ≡ none → ⊥) → o .table ≡ t) t address body (λ h. refl) (λ number n h. refl) (λ q h. refl)
+      (λ q h. absurd (h refl))
+      (λ q h. refl)
+
+  -- a number that is no exception is given in silence
+  pub number-silent : (acted t address body .number ≡ none → ⊥) → acted t address body .number ≤ 30 → acted t address body .reply ≡ []
+  number-silent =
+      every (λ (o : Outcome). (o .number ≡ none → ⊥) → o .number ≤ 30 → o .reply ≡ []) t address body (λ h k. refl)
+      (λ number n h k. absurd (omega arith))
+      (λ q h. absurd (h refl))
+      (λ q h. absurd (h refl))
+      (λ q h. absurd (h refl))
+
+  -- no message changes the entry of a read-only item
+  pub read-only-stays : (j : ℕ) → itemAt j .writable ≡ false → entry (acted t address body .table) j ≡ entry t j
+  unfolding written
+  read-only-stays j r =
+      every (λ (o : Outcome). entry (o .table) j ≡ entry t j) t address body refl (λ number h. refl) (λ q. refl)
+      (λ q. stored-read-only t _ j _ (write-accepted body q .listed) r)
+      (λ q. refl)
+
+  -- a good table stays good, so every writable entry stays in its range
+  pub good-stays : goodTable t ≡ true → goodTable (acted t address body .table) ≡ true
+  unfolding written
+  good-stays g =
+      every (λ (o : Outcome). goodTable (o .table) ≡ true) t address body g (λ number h. g) (λ q. g)
+      (λ q. good-stored t _ _ g (write-accepted body q .ranged))
+      (λ q. g)

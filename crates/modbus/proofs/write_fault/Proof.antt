@@ -1,0 +1,77 @@
+-- `modbus::write_fault` meets its contract: each way out is one of the rules of a write. Assumes nothing.
+use mathlib.Core.Path.{_≡_, sym, ap, ap₂, _∙_}
+use mathlib.Core.Bool.{Bool, cond}
+use Rattle.sign.proofs.Laws.{same}
+use Rattle.items.specs.declared.Item.{Item}
+use Rattle.items.specs.ItemList.{itemAt}
+use Rattle.items.specs.Table.{none, inRange}
+use Rattle.modbus.specs.Register.{ofRegister}
+use Rattle.modbus.specs.Outcome.{wrongData}
+use Rattle.modbus.specs.Rules.{firstWord, placeOf, writable, writeFault}
+use Rattle.modbus.proofs.Faults.{wrong-length, write-refused, write-ranged}
+use borrow.Author.Needs.{needs}
+use Rattle.modbus.proofs.write_fault.Statement.{statement}
+use Rattle.modbus.proofs.write_fault.Tie as tie
+
+returns : tie.Need-returns
+unfolding writeFault
+returns c = sym (wrong-length (c .before .before .args .body .now) _ (c .if1 .taken))
+
+first-word-requires : tie.Need-first-word-requires
+first-word-requires c κs = search needs
+
+place-of-requires : tie.Need-place-of-requires
+place-of-requires c κs = search needs
+
+item-at-requires : tie.Need-item-at-requires
+item-at-requires c κs = search needs
+
+-- the place, and whether its item is writable, as the calls gave them
+place : (c : tie.After-place-of) → c .place-of .result ≡ placeOf (firstWord (c .before .before .before .before .args .body .now))
+place c = c .place-of .ensures ∙ ap placeOf (c .before .first-word .ensures)
+
+kind : (c : tie.After-item-at) → c .item-at .result .writable ≡ writable (firstWord (c .before .before .before .before .before .args .body .now))
+kind c = ap (λ (x : Item). x .writable) (c .item-at .ensures ∙ ap itemAt (place (c .before)))
+
+second-word-requires : tie.Need-second-word-requires
+second-word-requires c κs = search needs
+
+of-register-requires : tie.Need-of-register-requires
+of-register-requires c κs = search needs
+
+in-range-requires : tie.Need-in-range-requires
+in-range-requires c κs = search needs
+
+-- what the rules give after the value was looked at
+ranged : (c : tie.After-in-range) →
+    writeFault (c .before .before .before .before .before .before .before .before .before .args .body .now) ≡ cond (c .in-range .result) none wrongData
+ranged c =
+    let w = c .before .before .before in
+    let value = c .before .of-register in
+    write-ranged _ (w .before .before .before .before .if1 .left) (sym (kind (w .before)) ∙ w .if2 .taken)
+    (c .in-range .ensures
+    ∙ ap₂ inRange (place (w .before .before)) (same (value .result) (value .ok) ∙ value .ensures ∙ ap ofRegister (c .before .before .second-word .ensures)))
+
+returns-2 : tie.Need-returns-2
+returns-2 c = sym (ranged (c .before) ∙ ap (λ (b : Bool). cond b none wrongData) (c .if3 .taken))
+
+returns-3 : tie.Need-returns-3
+returns-3 c = sym (ranged (c .before) ∙ ap (λ (b : Bool). cond b none wrongData) (c .if3 .left))
+
+returns-4 : tie.Need-returns-4
+returns-4 c = sym (write-refused _ (c .before .before .before .before .if1 .left) (sym (kind (c .before)) ∙ c .if2 .left))
+
+pub write-fault-spec : {M : Type 1} → statement M
+write-fault-spec =
+    tie.close
+    (tie.spec
+    returns
+    first-word-requires
+    place-of-requires
+    item-at-requires
+    second-word-requires
+    of-register-requires
+    in-range-requires
+    returns-2
+    returns-3
+    returns-4)

@@ -1,0 +1,4 @@
+pub mod Register
+pub mod Outcome
+pub mod Rules
+pub mod Promise

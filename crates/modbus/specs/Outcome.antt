@@ -1,0 +1,64 @@
+-- What comes of a message: the number given back, the reply's body, and the table.
+use Prim.Native.Nat.{ℕ, _+_, _-_}
+use mathlib.Core.Bool.{cond}
+use mathlib.Core.List.{List, [], _∷_}
+use lib.Dec.{eqb, ltb}
+use lib.IntN.{ℤ}
+use lib.ListN.{getD}
+use Rattle.items.specs.Table.{none}
+
+pub record Outcome : Type 0 where
+  pub number : ℕ
+  pub reply : List ℕ
+  pub table : List ℤ
+
+-- the numbers given back here, beside `none`
+abbrev pub shortBuffer : ℕ
+shortBuffer = 3
+
+abbrev pub otherAddress : ℕ
+otherAddress = 23
+
+abbrev pub unknownFunction : ℕ
+unknownFunction = 31
+
+abbrev pub wrongRegister : ℕ
+wrongRegister = 32
+
+abbrev pub wrongData : ℕ
+wrongData = 33
+
+-- the parts that every message has: the address, then the function
+abbrev pub addressOf : List ℕ → ℕ
+addressOf body = getD body 0 0
+
+abbrev pub functionOf : List ℕ → ℕ
+functionOf body = getD body 1 0
+
+-- nothing is sent, and the table stays
+abbrev pub silent : ℕ → List ℤ → Outcome
+silent number table = record { number = number; reply = []; table = table }
+
+-- the request is done: this reply, and this table
+abbrev pub done : List ℕ → List ℤ → Outcome
+done reply table = record { number = none; reply = reply; table = table }
+
+-- a function with its top bit set; 80H and above keeps its value
+abbrev pub topBitSet : ℕ → ℕ
+topBitSet function = cond (ltb function 0x80) (function + 0x80) function
+
+-- numbers 31, 32 and 33 are exceptions 1, 2 and 3
+abbrev pub codeOf : ℕ → ℕ
+codeOf number = number - 30
+
+-- an exception reply: address, function with its top bit set, code
+unfoldable pub exceptionReply : ℕ → List ℕ → List ℕ
+exceptionReply number body = addressOf body ∷ topBitSet (functionOf body) ∷ codeOf number ∷ []
+
+-- an exception changes nothing in the table
+abbrev pub exception : ℕ → List ℤ → List ℕ → Outcome
+exception number table body = record { number = number; reply = exceptionReply number body; table = table }
+
+-- a request that meets a fault is answered by its exception; else it has the outcome given
+unfoldable pub unlessFault : ℕ → List ℤ → List ℕ → Outcome → Outcome
+unlessFault fault table body outcome = cond (eqb fault none) outcome (exception fault table body)

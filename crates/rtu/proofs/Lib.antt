@@ -1,0 +1,4 @@
+pub mod Refusals
+pub mod Replies
+pub mod Demands
+pub mod Single

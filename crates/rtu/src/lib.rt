@@ -1,0 +1,93 @@
+// One Modbus RTU frame: the message rules between a test of its CRC and a reply that is sealed with one.
+ghost use mathlib.Core.Path.{_≡_};
+ghost use lib.ListN.{length};
+ghost use Rattle.items.specs.Table.{none};
+ghost use Rattle.crc.specs.Crc.{bodyOf};
+ghost use Rattle.modbus.specs.Rules.{acted};
+ghost use Rattle.modbus.specs.Promise.{Gives};
+ghost use Rattle.rtu.specs.Frame.{callFault, frameFault, refusal, withCrc};
+ghost use Rattle.rtu.specs.Promise.{Acts};
+use modbus::Answered;
+
+// Numbers given back, beside those of the table and of the message.
+pub const WRONG_ADDRESS: u8 = 4;
+
+pub const WRONG_LENGTH: u8 = 21;
+
+pub const WRONG_CRC: u8 = 22;
+
+// The addresses that a device can have, and the lengths that a frame can have.
+const FIRST_ADDRESS: u8 = 1;
+
+const LAST_ADDRESS: u8 = 99;
+
+const SHORTEST: usize = 4;
+
+const LONGEST: usize = 256;
+
+// The caller's fault, 0 for none.
+fn call_fault(table: &[i32], room: usize, address: u8) -> u8
+    ensures { λ r. ⌜ r ≡ callFault (now (table .entry)) room address ⌝ }
+{
+    let fault = items::check(table);
+    if fault != 0 {
+        return fault;
+    }
+    if room < modbus::BUFFER_LENGTH {
+        return modbus::SHORT_BUFFER;
+    }
+    match address {
+        FIRST_ADDRESS..=LAST_ADDRESS => 0,
+        _ => WRONG_ADDRESS,
+    }
+}
+
+// The frame's fault, 0 for none.
+fn frame_fault(frame: &[u8]) -> u8
+    ensures { λ r. ⌜ r ≡ frameFault (now (frame .entry)) ⌝ }
+{
+    let length = frame.len();
+    match length {
+        SHORTEST..=LONGEST => if crc::is_right(frame) { 0 } else { WRONG_CRC },
+        _ => WRONG_LENGTH,
+    }
+}
+
+// The first of both, 0 for none.
+fn refusal(table: &[i32], room: usize, address: u8, frame: &[u8]) -> u8
+    ensures { λ r. ⌜ r ≡ refusal (now (table .entry)) room address (now (frame .entry)) ⌝ }
+{
+    let fault = call_fault(table, room, address);
+    if fault != 0 {
+        return fault;
+    }
+    frame_fault(frame)
+}
+
+// The message rules act on the body of a frame that is not refused, and a reply gets its CRC.
+fn answer(table: &mut [i32], reply: &mut [u8], address: u8, frame: &[u8]) -> Answered
+    requires { ⌜ refusal (now table) (length (now reply)) address (now frame) ≡ none ⌝ }
+    ensures { λ r. ⌜ Gives (withCrc (acted (now (table .entry)) address (bodyOf (now (frame .entry))))) r (now (reply .entry)) (now (reply .exit)) (now (table .exit)) ⌝ }
+{
+    let n = frame.len() - 2;
+    let answered = modbus::respond(table, reply, address, &frame[..n]);
+    if answered.len == 0 {
+        return answered;
+    }
+    let len = crc::seal(reply, answered.len);
+    Answered {
+        number: answered.number,
+        len,
+    }
+}
+
+// One frame at our address: the number, and the sealed reply at the buffer's front.
+pub fn frame(table: &mut [i32], reply: &mut [u8], address: u8, frame: &[u8]) -> Answered
+    ensures { λ r. ⌜ Acts (now (table .entry)) (now (reply .entry)) address (now (frame .entry)) r (now (reply .exit)) (now (table .exit)) ⌝ }
+{
+    let number = refusal(&table[..], reply.len(), address, frame);
+    if number != 0 {
+        return Answered { number, len: 0 };
+    }
+    answer(table, reply, address, frame)
+}
