@@ -14,7 +14,7 @@ use lib.Seq.{length-take-le, take-add, drop-at}
 use Rattle.line.specs.Line.{isLineError}
 use Rattle.items.specs.ItemList.{itemAt, found}
 use Rattle.items.specs.Table.{inRange}
-use Rattle.items.specs.declared.Item.{Item}
+use Rattle.items.specs.ItemList.{Item}
 use Rattle.text.specs.Numbers.{numberOf}
 use Rattle.text.specs.Reading.{reading}
 use Rattle.text.specs.declared.Reading.{Reading}

@@ -14,7 +14,7 @@ use lib.ListN.{getD, set, length, length-set}
 use lib.Seq.{getD-set-other}
 use lib.Signed.{leZ}
 use Rattle.sign.proofs.Laws.{contrary}
-use Rattle.items.specs.declared.Item.{Item}
+use Rattle.items.specs.ItemList.{Item}
 use Rattle.items.specs.declared.Found.{Found}
 use Rattle.items.specs.declared.Found.the-variants.{At, Nothing}
 use Rattle.items.specs.ItemList.{items, itemList, noItem, itemAt, firstFrom, named, registered, found, foundByRegister}

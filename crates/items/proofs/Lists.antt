@@ -3,7 +3,7 @@
 -- Assumes nothing.
 use mathlib.Core.Path.{_≡_, refl, sym, ap, _∙_}
 use mathlib.Core.Bool.{Bool, true, false, cond, _&&_}
-use mathlib.Core.List.{List, [], _∷_, _++_, append-nil}
+use mathlib.Core.List.{List, [], _∷_, _++_, map, append-nil}
 use Prim.Native.Nat.{ℕ, zero, suc, _+_, _<_, _≤_}
 use native.Mathlib.Nat.{not-suc-le-zero, le-of-suc-le-suc}
 use native.Mathlib.Numerals.{add-one}
@@ -11,12 +11,11 @@ use native.Mathlib.Omega.{arith}
 use borrow.Author.Tests.{eqb-true, eqb-false}
 use lib.Dec.{eqb}
 use lib.IntN.{ℤ, pos}
-use lib.ListN.{length, getD, set, drop, drop-of-length-le}
+use lib.ListN.{length, getD, set, drop, drop-of-length-le, List·getD-eq-default, List·getD-map}
 use lib.Seq.{drop-cons, sets, sets-eq}
 use Rattle.sign.proofs.Laws.{contrary}
-use Rattle.items.specs.declared.Item.{Item}
 use Rattle.items.specs.declared.Found.the-variants.{At}
-use Rattle.items.specs.ItemList.{noItem, firstFrom}
+use Rattle.items.specs.ItemList.{Item, items, itemList, noItem, itemAt, firstFrom}
 use Rattle.items.specs.Table.{fromLowToHigh, allInRange, entry}
 
 -- both tests held
@@ -29,6 +28,13 @@ pub read-inside : {A : Type 0} (l : List A) (i : ℕ) (d e : A) → i < length l
 read-inside [] i d e h = absurd (not-suc-le-zero h)
 read-inside (x ∷ xs) zero d e h = refl
 read-inside (x ∷ xs) (suc i) d e h = read-inside xs i d e (le-of-suc-le-suc h)
+
+-- a column of the list, and what stands past the list
+pub column : {A : Type 0} (f : Item → A) (i : ℕ) (d : A) → i < items → getD (map f itemList) i d ≡ f (itemAt i)
+column f i d h = read-inside (map f itemList) i d (f noItem) h ∙ List·getD-map f itemList i noItem
+
+pub line-past : (i : ℕ) → items ≤ i → itemAt i ≡ noItem
+line-past i h = List·getD-eq-default itemList noItem h
 
 -- a test passes at each number below n
 abbrev pub passes : (ℕ → Bool) → ℕ → Bool

@@ -6,9 +6,8 @@ use mathlib.Core.List.{List}
 use Prim.Native.Nat.{ℕ}
 use lib.IntN.{ℤ}
 use Rattle.sign.proofs.Single.{single}
-use Rattle.items.specs.declared.Item.{Item}
 use Rattle.items.specs.declared.Found.{Found}
-use Rattle.items.specs.ItemList.{itemAt, found, foundByRegister}
+use Rattle.items.specs.ItemList.{itemAt, identifierOf, found, foundByRegister}
 use Rattle.items.specs.Table.{inRange, tableFault, startNumber, startTable, answered, stored, putNumber, putTable}
 use Rattle.items.specs.Promise.{Lent}
 
@@ -35,8 +34,14 @@ answer-single t i = single
 pub in-range-single : (i : ℕ) (v : ℤ) {r s : Bool} → r ≡ inRange i v → s ≡ inRange i v → r ≡ s
 in-range-single i v = single
 
-pub item-at-single : (i : ℕ) {r s : Item} → r ≡ itemAt i → s ≡ itemAt i → r ≡ s
-item-at-single i = single
+pub identifier-single : (i : ℕ) {r s : List ℕ} → r ≡ identifierOf (itemAt i) → s ≡ identifierOf (itemAt i) → r ≡ s
+identifier-single i = single
+
+pub writable-single : (i : ℕ) {r s : Bool} → r ≡ itemAt i .writable → s ≡ itemAt i .writable → r ≡ s
+writable-single i = single
+
+pub decimals-single : (i : ℕ) {r s : ℕ} → r ≡ itemAt i .decimals → s ≡ itemAt i .decimals → r ≡ s
+decimals-single i = single
 
 pub find-single : (a b : ℕ) {r s : Found} → r ≡ found a b → s ≡ found a b → r ≡ s
 find-single a b = single

@@ -6,9 +6,19 @@ use lib.Dec.{eqb}
 use lib.IntN.{ℤ, pos}
 use lib.ListN.{getD}
 use Rattle.sign.specs.Sign.{minus}
-use Rattle.items.specs.declared.Item.{Item}
 use Rattle.items.specs.declared.Found.{Found}
 use Rattle.items.specs.declared.Found.the-variants.{At, Nothing}
+
+-- what the list says of an item: its identifier's two characters, register, kind, decimals, limits and start value
+pub record Item : Type 0 where
+  pub first : ℕ
+  pub second : ℕ
+  pub register : ℕ
+  pub writable : Bool
+  pub decimals : ℕ
+  pub low : ℤ
+  pub high : ℤ
+  pub start : ℤ
 
 -- the two kinds: what may be written may also be read
 abbrev pub read : Bool
@@ -17,7 +27,7 @@ read = false
 abbrev pub write : Bool
 write = true
 
--- a line of the list: the identifier's two characters, register, kind, decimals, low, high, start
+-- a line of the list, in that order
 abbrev pub line : ℕ → ℕ → ℕ → Bool → ℕ → ℤ → ℤ → ℤ → Item
 line a b r k d l h s = record { first = a; second = b; register = r; writable = k; decimals = d; low = l; high = h; start = s }
 
@@ -50,6 +60,10 @@ noItem = line 0 0 0 read 0 (pos 1) (pos 0) (pos 0)
 -- the line at a place
 abbrev pub itemAt : ℕ → Item
 itemAt i = getD itemList i noItem
+
+-- an item's identifier
+abbrev pub identifierOf : Item → List ℕ
+identifierOf x = x .first ∷ x .second ∷ []
 
 -- the first line that passes a test, by its place; the lines left start at place i
 abbrev pub firstFrom : ℕ → (Item → Bool) → List Item → Found

@@ -6,7 +6,7 @@ use lib.Dec.{eqb, leb}
 use lib.IntN.{ℤ, pos}
 use lib.ListN.{getD, set, length}
 use lib.Signed.{leZ}
-use Rattle.items.specs.declared.Item.{Item}
+use Rattle.items.specs.ItemList.{Item}
 use Rattle.items.specs.ItemList.{items, itemList, itemAt}
 
 -- the numbers given back here; 0 is none

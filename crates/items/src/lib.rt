@@ -3,21 +3,9 @@
 ghost use mathlib.Core.Path.{_≡_};
 ghost use Prim.Native.Nat.{_<_};
 ghost use lib.ListN.{length};
-ghost use Rattle.items.specs.ItemList.{itemAt, named, found, foundByRegister};
-ghost use Rattle.items.specs.Table.{fromLowToHigh, inRange, tableFault, startNumber, startTable, entry, alarm, answered, stored, putNumber, putTable};
+ghost use Rattle.items.specs.ItemList.{itemAt, identifierOf, named, found, foundByRegister};
+ghost use Rattle.items.specs.Table.{inRange, tableFault, startNumber, startTable, entry, alarm, answered, stored, putNumber, putTable};
 ghost use Rattle.items.specs.Promise.{Lent};
-
-// A line of the item list.
-pub struct Item {
-    pub first: u8,
-    pub second: u8,
-    pub register: u16,
-    pub writable: bool,
-    pub decimals: u8,
-    pub low: i32,
-    pub high: i32,
-    pub start: i32,
-}
 
 // What a search of the list finds: a place in it, or nothing.
 pub enum Found {
@@ -47,182 +35,87 @@ pub const NO_SUCH_ITEM: u8 = 6;
 
 pub const VALUE_OUTSIDE: u8 = 7;
 
-// The item list: identifier, register, kind, decimals, low, high and start of each item.
-const LIST: [Item; 12] = [
-    // 1 M1 measured value
-    Item {
-        first: b'M',
-        second: b'1',
-        register: 0x0000,
-        writable: false,
-        decimals: 1,
-        low: -1999,
-        high: 9999,
-        start: 0,
-    },
-    // 2 AA alarm 1 state
-    Item {
-        first: b'A',
-        second: b'A',
-        register: 0x0001,
-        writable: false,
-        decimals: 0,
-        low: 0,
-        high: 0,
-        start: 0,
-    },
-    // 3 AB alarm 2 state
-    Item {
-        first: b'A',
-        second: b'B',
-        register: 0x0002,
-        writable: false,
-        decimals: 0,
-        low: 0,
-        high: 0,
-        start: 0,
-    },
-    // 4 B1 burnout
-    Item {
-        first: b'B',
-        second: b'1',
-        register: 0x0003,
-        writable: false,
-        decimals: 0,
-        low: 0,
-        high: 1,
-        start: 0,
-    },
-    // 5 ER error code
-    Item {
-        first: b'E',
-        second: b'R',
-        register: 0x0004,
-        writable: false,
-        decimals: 0,
-        low: 0,
-        high: 255,
-        start: 0,
-    },
-    // 6 S1 set value
-    Item {
-        first: b'S',
-        second: b'1',
-        register: 0x000B,
-        writable: true,
-        decimals: 1,
-        low: -1999,
-        high: 9999,
-        start: 0,
-    },
-    // 7 A1 alarm 1
-    Item {
-        first: b'A',
-        second: b'1',
-        register: 0x000C,
-        writable: true,
-        decimals: 1,
-        low: -1999,
-        high: 9999,
-        start: 500,
-    },
-    // 8 A2 alarm 2
-    Item {
-        first: b'A',
-        second: b'2',
-        register: 0x000E,
-        writable: true,
-        decimals: 1,
-        low: -1999,
-        high: 9999,
-        start: 500,
-    },
-    // 9 PB offset
-    Item {
-        first: b'P',
-        second: b'B',
-        register: 0x0010,
-        writable: true,
-        decimals: 2,
-        low: -1000,
-        high: 1000,
-        start: 0,
-    },
-    // 10 PR ratio
-    Item {
-        first: b'P',
-        second: b'R',
-        register: 0x0011,
-        writable: true,
-        decimals: 3,
-        low: 500,
-        high: 1500,
-        start: 1000,
-    },
-    // 11 F1 filter
-    Item {
-        first: b'F',
-        second: b'1',
-        register: 0x0012,
-        writable: true,
-        decimals: 0,
-        low: 0,
-        high: 100,
-        start: 0,
-    },
-    // 12 TM test number
-    Item {
-        first: b'T',
-        second: b'M',
-        register: 0x0008,
-        writable: true,
-        decimals: 0,
-        low: 0,
-        high: 999,
-        start: 0,
-    },
+// The item list, a column for each thing that it says of an item, in the list's order:
+// M1, AA, AB, B1, ER, S1, A1, A2, PB, PR, F1, TM.
+const FIRST: [u8; 12] = *b"MAABESAAPPFT";
+
+const SECOND: [u8; 12] = *b"1AB1R112BR1M";
+
+const WRITABLE: [bool; 12] = [
+    false,
+    false,
+    false,
+    false,
+    false,
+    true,
+    true,
+    true,
+    true,
+    true,
+    true,
+    true,
 ];
 
-// What stands past the list: nothing may be written to it, and no value is in its range.
-const NO_ITEM: Item = Item {
-    first: 0,
-    second: 0,
-    register: 0,
-    writable: false,
-    decimals: 0,
-    low: 1,
-    high: 0,
-    start: 0,
-};
+const DECIMALS: [u8; 12] = [1, 0, 0, 0, 0, 1, 1, 1, 2, 3, 0, 0];
+
+const LOW: [i32; 12] = [-1999, 0, 0, 0, 0, -1999, -1999, -1999, -1000, 500, 0, 0];
+
+const HIGH: [i32; 12] = [9999, 0, 0, 1, 255, 9999, 9999, 9999, 1000, 1500, 100, 999];
+
+const START: [i32; 12] = [0, 0, 0, 0, 0, 0, 500, 500, 0, 1000, 0, 0];
 
 // The number of the item that has this register, for each register of the map; 0 where none has it.
 const NUMBER_AT: [u8; 19] = [1, 2, 3, 4, 5, 0, 0, 0, 12, 0, 0, 6, 7, 0, 8, 0, 9, 10, 11];
 
-// The line of the list at a place.
-pub fn item_at(i: usize) -> Item
-    ensures { λ r. ⌜ r ≡ itemAt i ⌝ }
+// The first character of an item's identifier; 0 past the list.
+fn first(i: usize) -> u8
+    ensures { λ r. ⌜ r ≡ itemAt i .first ⌝ }
 {
-    if i < ITEMS { LIST[i] } else { NO_ITEM }
+    if i < ITEMS { FIRST[i] } else { 0 }
 }
 
-// Whether two characters are the item's identifier.
-fn is_named(item: Item, first: u8, second: u8) -> bool
-    ensures { λ r. ⌜ r ≡ named first second item ⌝ }
+// The second character.
+fn second(i: usize) -> u8
+    ensures { λ r. ⌜ r ≡ itemAt i .second ⌝ }
 {
-    if item.first == first {
-        item.second == second
-    } else {
-        false
-    }
+    if i < ITEMS { SECOND[i] } else { 0 }
+}
+
+// The two characters of an item's identifier.
+pub fn identifier(i: usize) -> [u8; 2]
+    ensures { λ r. ⌜ r ≡ identifierOf (itemAt i) ⌝ }
+{
+    [first(i), second(i)]
+}
+
+// Whether a host may write an item; nothing past the list.
+pub fn writable(i: usize) -> bool
+    ensures { λ r. ⌜ r ≡ itemAt i .writable ⌝ }
+{
+    if i < ITEMS { WRITABLE[i] } else { false }
+}
+
+// The decimals of an item; none past the list.
+pub fn decimals(i: usize) -> u8
+    ensures { λ r. ⌜ r ≡ itemAt i .decimals ⌝ }
+{
+    if i < ITEMS { DECIMALS[i] } else { 0 }
+}
+
+// Whether two characters are the identifier of the item at a place.
+fn is_named(i: usize, a: u8, b: u8) -> bool
+    ensures { λ r. ⌜ r ≡ named a b (itemAt i) ⌝ }
+{
+    if first(i) == a { second(i) == b } else { false }
 }
 
 // The item that two characters name.
-pub fn find(first: u8, second: u8) -> Found
-    ensures { λ r. ⌜ r ≡ found first second ⌝ }
+pub fn find(a: u8, b: u8) -> Found
+    ensures { λ r. ⌜ r ≡ found a b ⌝ }
 {
     let mut i = 0;
     while i < ITEMS {
-        if is_named(item_at(i), first, second) {
+        if is_named(i, a, b) {
             return Found::At(i);
         }
         i += 1;
@@ -246,22 +139,17 @@ pub fn find_register(register: u16) -> Found
     }
 }
 
-// Whether a value is from the item's low to its high.
-fn from_low_to_high(item: Item, value: i32) -> bool
-    ensures { λ r. ⌜ r ≡ fromLowToHigh item value ⌝ }
-{
-    if item.low <= value {
-        value <= item.high
-    } else {
-        false
-    }
-}
-
-// Whether a value is in the range of the item at a place.
+// Whether a value is from the low to the high of the item at a place; no value is past the list.
 pub fn in_range(i: usize, value: i32) -> bool
     ensures { λ r. ⌜ r ≡ inRange i value ⌝ }
 {
-    from_low_to_high(item_at(i), value)
+    if i < ITEMS {
+        let low = LOW[i];
+        let high = HIGH[i];
+        if low <= value { value <= high } else { false }
+    } else {
+        false
+    }
 }
 
 // The table's fault: WRONG_LENGTH, ENTRY_OUTSIDE, or 0 for none.
@@ -274,7 +162,7 @@ pub fn check(table: &[i32]) -> u8
     let mut i = 0;
     while i < ITEMS {
         let value = table[i];
-        if from_low_to_high(item_at(i), value) {
+        if in_range(i, value) {
             i += 1;
         } else {
             return ENTRY_OUTSIDE;
@@ -292,9 +180,8 @@ pub fn start(table: &mut [i32]) -> u8
     }
     let mut i = 0;
     while i < ITEMS {
-        let item = item_at(i);
-        let first = item.start;
-        table[i] = first;
+        let value = START[i];
+        table[i] = value;
         i += 1;
     }
     0

@@ -1,7 +1,7 @@
 -- `items::check` meets its contract. The loop's invariant: the table is in range where what is left of it is. Assumes nothing.
 use borrow.Author.Needs.{needs}
 use borrow.Author.Tests.{eq-eqb, ne-eqb}
-use mathlib.Core.Path.{_≡_, refl, sym, ap, ap₂, _∙_}
+use mathlib.Core.Path.{_≡_, refl, sym, ap, _∙_}
 use mathlib.Core.Bool.{Bool, true, false, _&&_}
 use Prim.Native.Nat.{_+_, _-_, _≤_}
 use native.Mathlib.Omega.{arith}
@@ -10,7 +10,7 @@ use lib.ListN.{getD, length, drop, drop-of-length-le}
 use mir.Syntax.{w32}
 use mir.Val.{toZ, ofZ}
 use Rattle.items.specs.ItemList.{items, itemList, noItem}
-use Rattle.items.specs.Table.{fromLowToHigh, allInRange, entry, tableFault}
+use Rattle.items.specs.Table.{inRange, allInRange, entry, tableFault}
 use Rattle.items.proofs.Lists.{check-turn}
 use Rattle.items.proofs.check.Statement.{statement}
 use Rattle.items.proofs.check.Tie as tie
@@ -34,24 +34,22 @@ mul-value c = search needs
 shared-slice-copy-out-value : tie.Need-shared-slice-copy-out-value Inv-loop μ-loop
 shared-slice-copy-out-value c = search needs
 
-item-at-requires : tie.Need-item-at-requires Inv-loop μ-loop
-item-at-requires c κs = search needs
-
-from-low-to-high-requires : tie.Need-from-low-to-high-requires Inv-loop μ-loop
-from-low-to-high-requires c κs = search needs
+in-range-requires : tie.Need-in-range-requires Inv-loop μ-loop
+in-range-requires c κs = search needs
 
 -- a turn: the entry at i, and then those after it
-turn : (c : tie.After-from-low-to-high Inv-loop μ-loop) →
-    let l = c .before .before .before .before in
+turn : (c : tie.After-in-range Inv-loop μ-loop) →
+    let l = c .before .before .before in
     let t = l .before .before .args .table .now in
-    (c .from-low-to-high .result && allInRange (drop (l .loop .i + 1) itemList) (drop (l .loop .i + 1) t)) ≡ allInRange itemList t
+    (c .in-range .result && allInRange (drop (l .loop .i + 1) itemList) (drop (l .loop .i + 1) t)) ≡ allInRange itemList t
+unfolding inRange
 turn c =
-    let l = c .before .before .before .before in
+    let l = c .before .before .before in
     let t = l .before .before .args .table .now in
     let i = l .loop .i in
-    let h = c .before .before .before .loop-test .taken in
+    let h = c .before .before .loop-test .taken in
     let v : toZ w32 (ofZ w32 (getD t i (pos 0))) ≡ getD t i (pos 0) = search needs in
-    ap (λ (b : Bool). b && allInRange (drop (i + 1) itemList) (drop (i + 1) t)) (c .from-low-to-high .ensures ∙ ap₂ fromLowToHigh (c .before .item-at .ensures) v)
+    ap (λ (b : Bool). b && allInRange (drop (i + 1) itemList) (drop (i + 1) t)) (c .in-range .ensures ∙ ap (inRange i) v)
     ∙ sym (check-turn itemList t i h (omega arith)) ∙ l .loop .inv .1
 
 add-i : tie.Need-add-i Inv-loop μ-loop
@@ -65,7 +63,7 @@ loop-again c = (search needs, rw (c .if2 .taken) at (turn (c .before)))
 
 returns-2 : tie.Need-returns-2 Inv-loop μ-loop
 unfolding tableFault
-returns-2 c = simp (eq-eqb _ _ (c .before .before .before .before .before .before .if1 .left), ← rw (c .if2 .left) at (turn (c .before)))
+returns-2 c = simp (eq-eqb _ _ (c .before .before .before .before .before .if1 .left), ← rw (c .if2 .left) at (turn (c .before)))
 
 returns-3 : tie.Need-returns-3 Inv-loop μ-loop
 unfolding tableFault
@@ -85,8 +83,7 @@ check-spec =
     loop-holds
     mul-value
     shared-slice-copy-out-value
-    item-at-requires
-    from-low-to-high-requires
+    in-range-requires
     add-i
     loop-less
     loop-again

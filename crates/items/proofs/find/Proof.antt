@@ -13,30 +13,27 @@ use Rattle.items.proofs.find.Statement.{statement}
 use Rattle.items.proofs.find.Tie as tie
 
 abbrev Inv-loop : tie.InvT-loop
-Inv-loop first second i₀ i = (i ≤ items) × (firstFrom i (named first second) (drop i itemList) ≡ found first second)
+Inv-loop a b i₀ i = (i ≤ items) × (firstFrom i (named a b) (drop i itemList) ≡ found a b)
 
 abbrev μ-loop : tie.MeasureT-loop
-μ-loop first second i₀ i = items - i
+μ-loop a b i₀ i = items - i
 
 loop-holds : tie.Need-loop-holds Inv-loop μ-loop
 unfolding found
 loop-holds c = (omega arith, refl)
-
-item-at-requires : tie.Need-item-at-requires Inv-loop μ-loop
-item-at-requires c κs = search needs
 
 is-named-requires : tie.Need-is-named-requires Inv-loop μ-loop
 is-named-requires c κs = search needs
 
 -- a turn: the line at i decides, or the lines after it do
 turn : (c : tie.After-is-named Inv-loop μ-loop) →
-    let l = c .before .before .before in
-    cond (c .is-named .result) (At (l .loop .i)) (firstFrom (l .loop .i + 1) (named (l .before .args .first) (l .before .args .second)) (drop (l .loop .i + 1) itemList))
-    ≡ found (l .before .args .first) (l .before .args .second)
+    let l = c .before .before in
+    cond (c .is-named .result) (At (l .loop .i)) (firstFrom (l .loop .i + 1) (named (l .before .args .a) (l .before .args .b)) (drop (l .loop .i + 1) itemList))
+    ≡ found (l .before .args .a) (l .before .args .b)
 turn c =
-    let l = c .before .before .before in
-    ap (λ (t : Bool). cond t (At (l .loop .i)) (firstFrom (l .loop .i + 1) (named (l .before .args .first) (l .before .args .second)) (drop (l .loop .i + 1) itemList))) (c .is-named .ensures ∙ ap (named (l .before .args .first) (l .before .args .second)) (c .before .item-at .ensures))
-    ∙ sym (search-turn (named (l .before .args .first) (l .before .args .second)) itemList (l .loop .i) (c .before .before .loop-test .taken))
+    let l = c .before .before in
+    ap (λ (t : Bool). cond t (At (l .loop .i)) (firstFrom (l .loop .i + 1) (named (l .before .args .a) (l .before .args .b)) (drop (l .loop .i + 1) itemList))) (c .is-named .ensures)
+    ∙ sym (search-turn (named (l .before .args .a) (l .before .args .b)) itemList (l .loop .i) (c .before .loop-test .taken))
     ∙ l .loop .inv .1
 
 returns : tie.Need-returns Inv-loop μ-loop
@@ -54,7 +51,7 @@ loop-again c = (search needs, rw (c .if1 .left) at (turn (c .before)))
 returns-2 : tie.Need-returns-2 Inv-loop μ-loop
 returns-2 c =
     let l = c .before in
-    sym (ap (firstFrom (l .loop .i) (named (l .before .args .first) (l .before .args .second))) (drop-of-length-le itemList (c .loop-test .left)))
+    sym (ap (firstFrom (l .loop .i) (named (l .before .args .a) (l .before .args .b))) (drop-of-length-le itemList (c .loop-test .left)))
     ∙ l .loop .inv .1
 
 pub find-spec : {M : Type 1} → statement M
@@ -64,7 +61,6 @@ find-spec =
     Inv-loop
     μ-loop
     loop-holds
-    item-at-requires
     is-named-requires
     returns
     add-i

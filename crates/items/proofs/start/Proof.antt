@@ -5,14 +5,13 @@ use borrow.Author.Tests.{eq-eqb, ne-eqb}
 use mathlib.Core.Path.{_≡_, refl, sym, ap, _∙_}
 use Prim.Native.Nat.{_+_, _-_, _≤_}
 use native.Mathlib.Omega.{arith}
-use lib.IntN.{ℤ}
-use lib.ListN.{length, drop, length-set, drop-of-length-le, List·getD-map}
+use lib.IntN.{ℤ, pos}
+use lib.ListN.{getD, length, drop, length-set, drop-of-length-le}
 use lib.Seq.{sets}
 use mathlib.Core.List.{List}
 use mir.Syntax.{w32}
 use mir.Val.{toZ, ofZ}
-use Rattle.items.specs.declared.Item.{Item}
-use Rattle.items.specs.ItemList.{items, itemList, noItem}
+use Rattle.items.specs.ItemList.{items}
 use Rattle.items.specs.Table.{startValues, startNumber, startTable, entry}
 use Rattle.items.proofs.Lists.{store-turn, store-all}
 use Rattle.items.proofs.start.Statement.{statement}
@@ -32,14 +31,17 @@ returns c = record { given = simp (ne-eqb _ _ (c .if1 .taken)); left = simp (ne-
 loop-holds : tie.Need-loop-holds Inv-loop μ-loop
 loop-holds c = (omega arith, refl, refl)
 
-item-at-requires : tie.Need-item-at-requires Inv-loop μ-loop
-item-at-requires c κs = search needs
+mul-value : tie.Need-mul-value Inv-loop μ-loop
+mul-value c = search needs
 
-mul-first : tie.Need-mul-first Inv-loop μ-loop
-mul-first c = search needs
+array-copy-out-value : tie.Need-array-copy-out-value Inv-loop μ-loop
+array-copy-out-value c = search needs
 
-slice-set-from-first : tie.Need-slice-set-from-first Inv-loop μ-loop
-slice-set-from-first c = omega (arith, c .before .before .before .loop .inv .1)
+mul-value-2 : tie.Need-mul-value-2 Inv-loop μ-loop
+mul-value-2 c = search needs
+
+slice-set-from-value : tie.Need-slice-set-from-value Inv-loop μ-loop
+slice-set-from-value c = omega (arith, c .before .before .loop .inv .1)
 
 add-i : tie.Need-add-i Inv-loop μ-loop
 add-i c = search needs
@@ -50,15 +52,12 @@ loop-less c = search needs
 loop-again : tie.Need-loop-again Inv-loop μ-loop
 unfolding startValues
 loop-again c =
-    let l = c .before .before .before in
+    let l = c .before .before in
     let i = l .loop .i in
-    let item = c .before .item-at .result in
-    let read : toZ w32 (ofZ w32 (item .start)) ≡ item .start = search needs in
-    let value : toZ w32 (ofZ w32 (item .start)) ≡ entry startValues i =
-    read ∙ ap (λ (x : Item). x .start) (c .before .item-at .ensures) ∙ sym (List·getD-map (λ (x : Item). x .start) itemList i noItem) in (
+    let value : toZ w32 (ofZ w32 (getD startValues i (pos 0))) ≡ entry startValues i = search needs in (
       search needs,
       simp length-set (l .loop .inv .1),
-      rw value (sym (store-turn (l .loop .table) startValues i (c .before .before .loop-test .taken)) ∙ l .loop .inv .2),
+      rw value (sym (store-turn (l .loop .table) startValues i (c .before .loop-test .taken)) ∙ l .loop .inv .2),
     )
 
 same-length : tie.Need-same-length Inv-loop μ-loop
@@ -81,9 +80,10 @@ start-spec =
     μ-loop
     returns
     loop-holds
-    item-at-requires
-    mul-first
-    slice-set-from-first
+    mul-value
+    array-copy-out-value
+    mul-value-2
+    slice-set-from-value
     add-i
     loop-less
     loop-again

@@ -2,7 +2,7 @@
 use mathlib.Core.Path.{_≡_, sym, ap, ap₂, _∙_}
 use mathlib.Core.Bool.{Bool, cond}
 use Rattle.sign.proofs.Laws.{same}
-use Rattle.items.specs.declared.Item.{Item}
+use Rattle.items.specs.ItemList.{Item}
 use Rattle.items.specs.ItemList.{itemAt}
 use Rattle.items.specs.Table.{none, inRange}
 use Rattle.modbus.specs.Register.{ofRegister}

@@ -5,7 +5,7 @@ use mathlib.Core.Path.{_≡_, ap}
 use mathlib.Core.List.{List, [], _∷_, _++_}
 use Prim.Native.Nat.{ℕ}
 use lib.ListN.{length}
-use Rattle.items.specs.declared.Item.{Item}
+use Rattle.items.specs.ItemList.{Item}
 use Rattle.items.specs.ItemList.{itemAt}
 use Rattle.line.specs.Line.{STX, ETX, bcc}
 use Rattle.rkc.specs.Outcome.{dataReply}

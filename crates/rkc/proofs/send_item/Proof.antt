@@ -3,7 +3,7 @@ use borrow.Author.Needs.{needs}
 use mathlib.Core.Path.{_≡_, ap₂, _∙_}
 use lib.ListN.{length-map}
 use Rattle.sign.proofs.Laws.{same}
-use Rattle.items.specs.declared.Item.{Item}
+use Rattle.items.specs.ItemList.{Item}
 use Rattle.items.specs.ItemList.{itemAt}
 use Rattle.items.specs.Table.{answered}
 use Rattle.text.specs.Writing.{written}

@@ -1,0 +1,19 @@
+-- `items::first` meets its contract: the column inside the list, and what stands past it. Assumes nothing.
+use borrow.Author.Needs.{needs}
+use mathlib.Core.Path.{sym, ap}
+use Rattle.items.specs.ItemList.{Item}
+use Rattle.items.proofs.Lists.{column, line-past}
+use Rattle.items.proofs.first.Statement.{statement}
+use Rattle.items.proofs.first.Tie as tie
+
+array-read-result : tie.Need-array-read-result
+array-read-result c = search needs
+
+returns : tie.Need-returns
+returns c = column (λ (x : Item). x .first) (c .before .args .i) _ (c .if1 .taken)
+
+returns-2 : tie.Need-returns-2
+returns-2 c = sym (ap (λ (x : Item). x .first) (line-past (c .before .args .i) (c .if1 .left)))
+
+pub first-spec : {M : Type 1} → statement M
+first-spec = tie.close (tie.spec array-read-result returns returns-2)
