@@ -14,7 +14,6 @@ use lib.Seq.{length-take-le, take-add, drop-at}
 use Rattle.line.specs.Line.{isLineError}
 use Rattle.items.specs.ItemList.{itemAt, found}
 use Rattle.items.specs.Table.{inRange}
-use Rattle.items.specs.ItemList.{Item}
 use Rattle.text.specs.Numbers.{numberOf}
 use Rattle.text.specs.Reading.{reading}
 use Rattle.text.specs.declared.Reading.{Reading}
@@ -63,12 +62,12 @@ module _ (d count : ℕ) (kept : List ℕ) where
   pub all-kept : count ≤ mostKept → reading width d (dataCharacters count kept) ≡ readData d count kept
   all-kept h = rw (le-ltb mostKept count h)
 
--- ---- a number for an item, from the item's line and what was read
+-- ---- a number for an item, from the item's decimals and what was read
 
-module _ (i count : ℕ) (kept : List ℕ) {item : Item} {read : Reading}
-    (at : item ≡ itemAt i) (said : read ≡ readData (item .decimals) count kept) where
+module _ (i count : ℕ) (kept : List ℕ) {d : ℕ} {read : Reading}
+    (at : d ≡ itemAt i .decimals) (said : read ≡ readData d count kept) where
   by-reading : valueFor i read ≡ forItem i count kept
-  by-reading = ap (valueFor i) (said ∙ ap (λ (x : Item). readData (x .decimals) count kept) at)
+  by-reading = ap (valueFor i) (said ∙ ap (λ (n : ℕ). readData n count kept) at)
 
   -- where no value was read
   pub refused : OneOf (1 ∷ 2 ∷ 3 ∷ []) (tagOf the-type read) → Refuse (numberOf read) ≡ forItem i count kept
@@ -78,12 +77,9 @@ module _ (i count : ℕ) (kept : List ℕ) {item : Item} {read : Reading}
     value : valueFor i (Value v) ≡ forItem i count kept
     value = ap (valueFor i) (sym e) ∙ by-reading
 
-    kind : {b : Bool} → item .writable ≡ b → itemAt i .writable ≡ b
-    kind w = sym (ap (λ (x : Item). x .writable) at) ∙ w
-
     -- where a value was read: by the item's kind, then by its range
-    pub of-value : (w r : Bool) → item .writable ≡ w → inRange i v ≡ r
+    pub of-value : (w r : Bool) → itemAt i .writable ≡ w → inRange i v ≡ r
         → cond w (cond r (Store i v) (Refuse outOfRange)) (Refuse readOnly) ≡ forItem i count kept
-    of-value true true p q = rw (← value, kind p, q)
-    of-value true false p q = rw (← value, kind p, q)
-    of-value false r p q = rw (← value, kind p)
+    of-value true true p q = rw (← value, p, q)
+    of-value true false p q = rw (← value, p, q)
+    of-value false r p q = rw (← value, p)

@@ -47,12 +47,11 @@ fn for_item(i: usize, count: u8, kept: [u8; 8]) -> Verdict
     requires { ⌜ identifier ≤ count ⌝ }
     ensures { λ r. ⌜ r ≡ forItem i count kept ⌝ }
 {
-    let item = items::item_at(i);
-    let read = read_data(item.decimals, count, kept);
+    let read = read_data(items::decimals(i), count, kept);
     let Reading::Value(v) = read else {
         return Verdict::Refuse(read.number());
     };
-    if item.writable {
+    if items::writable(i) {
         if items::in_range(i, v) {
             Verdict::Store(i, v)
         } else {

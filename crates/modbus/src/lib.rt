@@ -224,8 +224,7 @@ fn write_fault(body: &[u8]) -> u8
         return WRONG_DATA;
     }
     let i = place_of(first_word(body));
-    let item = items::item_at(i);
-    if item.writable {
+    if items::writable(i) {
         if items::in_range(i, of_register(second_word(body))) {
             0
         } else {

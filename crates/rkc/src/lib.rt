@@ -399,10 +399,10 @@ fn quit(reply: &mut [u8], structure: u8, number: u8) -> Stepped
 fn data_reply(i: usize, six: [u8; 6]) -> [u8; 11]
     ensures { λ r. ⌜ r ≡ dataReply i six ⌝ }
 {
-    let item = items::item_at(i);
+    let name = items::identifier(i);
     let message = [
-        item.first,
-        item.second,
+        name[0],
+        name[1],
         six[0],
         six[1],
         six[2],
@@ -414,8 +414,8 @@ fn data_reply(i: usize, six: [u8; 6]) -> [u8; 11]
     let sum = line::bcc(&message);
     [
         STX,
-        item.first,
-        item.second,
+        name[0],
+        name[1],
         six[0],
         six[1],
         six[2],
@@ -432,9 +432,8 @@ fn send_item(table: &[i32], reply: &mut [u8], structure: u8, time: u32, i: usize
     requires { ⌜ (256 ≤ length (now reply)) × (i < items) ⌝ }
     ensures { λ r. ⌜ Steps (itemSent structure time (now (table .entry)) i) r (now (reply .entry)) (now (reply .exit)) ⌝ }
 {
-    let item = items::item_at(i);
     let value = items::answer(table, i);
-    let written = text::write(item.decimals, value);
+    let written = text::write(items::decimals(i), value);
     let six = written.chars;
     if written.number == 0 {
         let chars = data_reply(i, six);

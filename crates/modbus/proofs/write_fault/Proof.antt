@@ -1,8 +1,8 @@
 -- `modbus::write_fault` meets its contract: each way out is one of the rules of a write. Assumes nothing.
 use mathlib.Core.Path.{_≡_, sym, ap, ap₂, _∙_}
 use mathlib.Core.Bool.{Bool, cond}
+use Prim.Native.Nat.{ℕ}
 use Rattle.sign.proofs.Laws.{same}
-use Rattle.items.specs.ItemList.{Item}
 use Rattle.items.specs.ItemList.{itemAt}
 use Rattle.items.specs.Table.{none, inRange}
 use Rattle.modbus.specs.Register.{ofRegister}
@@ -23,15 +23,15 @@ first-word-requires c κs = search needs
 place-of-requires : tie.Need-place-of-requires
 place-of-requires c κs = search needs
 
-item-at-requires : tie.Need-item-at-requires
-item-at-requires c κs = search needs
+writable-requires : tie.Need-writable-requires
+writable-requires c κs = search needs
 
 -- the place, and whether its item is writable, as the calls gave them
 place : (c : tie.After-place-of) → c .place-of .result ≡ placeOf (firstWord (c .before .before .before .before .args .body .now))
 place c = c .place-of .ensures ∙ ap placeOf (c .before .first-word .ensures)
 
-kind : (c : tie.After-item-at) → c .item-at .result .writable ≡ writable (firstWord (c .before .before .before .before .before .args .body .now))
-kind c = ap (λ (x : Item). x .writable) (c .item-at .ensures ∙ ap itemAt (place (c .before)))
+kind : (c : tie.After-writable) → c .writable .result ≡ writable (firstWord (c .before .before .before .before .before .args .body .now))
+kind c = c .writable .ensures ∙ ap (λ (i : ℕ). itemAt i .writable) (place (c .before))
 
 second-word-requires : tie.Need-second-word-requires
 second-word-requires c κs = search needs
@@ -68,7 +68,7 @@ write-fault-spec =
     returns
     first-word-requires
     place-of-requires
-    item-at-requires
+    writable-requires
     second-word-requires
     of-register-requires
     in-range-requires

@@ -4,35 +4,40 @@ use borrow.Author.Needs.{needs}
 use mathlib.Core.Path.{_≡_, ap}
 use mathlib.Core.List.{List, [], _∷_, _++_}
 use Prim.Native.Nat.{ℕ}
-use lib.ListN.{length}
-use Rattle.items.specs.ItemList.{Item}
-use Rattle.items.specs.ItemList.{itemAt}
+use lib.ListN.{length, getD}
+use Rattle.items.specs.ItemList.{itemAt, identifierOf}
 use Rattle.line.specs.Line.{STX, ETX, bcc}
 use Rattle.rkc.specs.Outcome.{dataReply}
 use Rattle.rkc.proofs.Lists.{listed-from, elements}
 use Rattle.rkc.proofs.data_reply.Statement.{statement}
 use Rattle.rkc.proofs.data_reply.Tie as tie
 
-item-at-requires : tie.Need-item-at-requires
-item-at-requires c κs = search needs
+identifier-requires : tie.Need-identifier-requires
+identifier-requires c κs = search needs
 
-array-read-t9 : tie.Need-array-read-t9
-array-read-t9 c = search needs
+array-read-t10 : tie.Need-array-read-t10
+array-read-t10 c = search needs
 
-array-read-t12 : tie.Need-array-read-t12
-array-read-t12 c = search needs
+array-read-t13 : tie.Need-array-read-t13
+array-read-t13 c = search needs
 
-array-read-t15 : tie.Need-array-read-t15
-array-read-t15 c = search needs
+array-read-t16 : tie.Need-array-read-t16
+array-read-t16 c = search needs
 
-array-read-t18 : tie.Need-array-read-t18
-array-read-t18 c = search needs
+array-read-t19 : tie.Need-array-read-t19
+array-read-t19 c = search needs
 
-array-read-t21 : tie.Need-array-read-t21
-array-read-t21 c = search needs
+array-read-t22 : tie.Need-array-read-t22
+array-read-t22 c = search needs
 
-array-read-t24 : tie.Need-array-read-t24
-array-read-t24 c = search needs
+array-read-t25 : tie.Need-array-read-t25
+array-read-t25 c = search needs
+
+array-read-t28 : tie.Need-array-read-t28
+array-read-t28 c = search needs
+
+array-read-t31 : tie.Need-array-read-t31
+array-read-t31 c = search needs
 
 slice-aggregate-bcc : tie.Need-slice-aggregate-bcc
 slice-aggregate-bcc c = search needs
@@ -40,54 +45,65 @@ slice-aggregate-bcc c = search needs
 bcc-requires : tie.Need-bcc-requires
 bcc-requires c κs = search needs
 
-array-read-t9-2 : tie.Need-array-read-t9-2
-array-read-t9-2 c = search needs
+array-read-t10-2 : tie.Need-array-read-t10-2
+array-read-t10-2 c = search needs
 
-array-read-t24-2 : tie.Need-array-read-t24-2
-array-read-t24-2 c = search needs
+array-read-t31-2 : tie.Need-array-read-t31-2
+array-read-t31-2 c = search needs
 
-array-read-t21-2 : tie.Need-array-read-t21-2
-array-read-t21-2 c = search needs
+array-read-t28-2 : tie.Need-array-read-t28-2
+array-read-t28-2 c = search needs
 
-array-read-t18-2 : tie.Need-array-read-t18-2
-array-read-t18-2 c = search needs
+array-read-t25-2 : tie.Need-array-read-t25-2
+array-read-t25-2 c = search needs
 
-array-read-t15-2 : tie.Need-array-read-t15-2
-array-read-t15-2 c = search needs
+array-read-t22-2 : tie.Need-array-read-t22-2
+array-read-t22-2 c = search needs
 
-array-read-t12-2 : tie.Need-array-read-t12-2
-array-read-t12-2 c = search needs
+array-read-t19-2 : tie.Need-array-read-t19-2
+array-read-t19-2 c = search needs
 
--- the reply about the elements of the six characters is the reply about the characters
-whole : (i : ℕ) (x : Item) (six : List ℕ) (sum : ℕ) → length six ≡ 6 → x ≡ itemAt i
-    → sum ≡ bcc (x .first ∷ x .second ∷ (listed-from six 0 6 ++ (ETX ∷ [])))
-    → STX ∷ x .first ∷ x .second ∷ (listed-from six 0 6 ++ (ETX ∷ sum ∷ [])) ≡ dataReply i six
+array-read-t16-2 : tie.Need-array-read-t16-2
+array-read-t16-2 c = search needs
+
+array-read-t13-2 : tie.Need-array-read-t13-2
+array-read-t13-2 c = search needs
+
+-- the reply about the elements of the identifier and of the six characters is the reply about those
+whole : (i : ℕ) (name six : List ℕ) (sum : ℕ) → length six ≡ 6 → name ≡ identifierOf (itemAt i)
+    → sum ≡ bcc (getD name 0 0 ∷ getD name 1 0 ∷ (listed-from six 0 6 ++ (ETX ∷ [])))
+    → STX ∷ getD name 0 0 ∷ getD name 1 0 ∷ (listed-from six 0 6 ++ (ETX ∷ sum ∷ [])) ≡ dataReply i six
 unfolding dataReply
-whole i x six sum h ex es = rw (es, ex) (ap (dataReply i) (elements six 6 h))
+whole i name six sum h en es = rw (es, en) (ap (dataReply i) (elements six 6 h))
 
 returns : tie.Need-returns
 returns c =
-    let six = c .before .before .before .args .t2 in
+    let s = c .before .before .before .args in
+    let six = s .t2 in
     let h : length six ≡ 6 = search needs in
-    whole (c .before .before .before .args .i) (c .before .before .item-at .result) six (c .bcc .result) h (c .before .before .item-at .ensures) (c .bcc .ensures)
+    whole (s .i) (c .before .before .identifier .result) six (c .bcc .result) h (c .before .before .identifier .ensures) (c .bcc .ensures)
 
 pub data-reply-spec : {M : Type 1} → statement M
 data-reply-spec =
     tie.close
     (tie.spec
-    item-at-requires
-    array-read-t9
-    array-read-t12
-    array-read-t15
-    array-read-t18
-    array-read-t21
-    array-read-t24
+    identifier-requires
+    array-read-t10
+    array-read-t13
+    array-read-t16
+    array-read-t19
+    array-read-t22
+    array-read-t25
+    array-read-t28
+    array-read-t31
     slice-aggregate-bcc
     bcc-requires
-    array-read-t9-2
-    array-read-t24-2
-    array-read-t21-2
-    array-read-t18-2
-    array-read-t15-2
-    array-read-t12-2
+    array-read-t10-2
+    array-read-t31-2
+    array-read-t28-2
+    array-read-t25-2
+    array-read-t22-2
+    array-read-t19-2
+    array-read-t16-2
+    array-read-t13-2
     returns)

@@ -1,9 +1,8 @@
 -- `rkc::send_item` meets its contract: the number text fits six characters, or EOT is sent. Assumes nothing.
 use borrow.Author.Needs.{needs}
-use mathlib.Core.Path.{_≡_, ap₂, _∙_}
+use mathlib.Core.Path.{_≡_, _∙_}
 use lib.ListN.{length-map}
 use Rattle.sign.proofs.Laws.{same}
-use Rattle.items.specs.ItemList.{Item}
 use Rattle.items.specs.ItemList.{itemAt}
 use Rattle.items.specs.Table.{answered}
 use Rattle.text.specs.Writing.{written}
@@ -11,11 +10,11 @@ use Rattle.rkc.proofs.Cases.{steps-by, item-fits, item-too-long}
 use Rattle.rkc.proofs.send_item.Statement.{statement}
 use Rattle.rkc.proofs.send_item.Tie as tie
 
-item-at-requires : tie.Need-item-at-requires
-item-at-requires c κs = search needs
-
 answer-requires : tie.Need-answer-requires
 answer-requires c κs = search needs
+
+decimals-requires : tie.Need-decimals-requires
+decimals-requires c κs = search needs
 
 write-requires : tie.Need-write-requires
 write-requires c κs = search needs
@@ -49,10 +48,8 @@ text-is : (c : tie.After-write) →
     let s = c .before .before .before .before in
     c .write .result ≡ written 6 (itemAt (s .args .i) .decimals) (answered (s .args .table .now) (s .args .i))
 text-is c =
-    let item = c .before .before .item-at in
-    let value = c .before .answer in
-    c .write .ensures
-    ∙ rw (item .ensures, same (value .result) (value .ok) ∙ value .ensures)
+    let value = c .before .before .answer in
+    c .write .ensures ∙ rw (c .before .decimals .ensures, same (value .result) (value .ok) ∙ value .ensures)
 
 returns : tie.Need-returns
 returns c =
@@ -75,8 +72,8 @@ pub send-item-spec : {M : Type 1} → statement M
 send-item-spec =
     tie.close
     (tie.spec
-    item-at-requires
     answer-requires
+    decimals-requires
     write-requires
     data-reply-requires
     slice-aggregate-put
