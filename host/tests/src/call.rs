@@ -37,6 +37,9 @@ pub struct Call {
 /// What stands before and behind each lent array in the driver.
 const GUARD: [u8; 8] = [0xC3; 8];
 
+/// The driver's room for one lent array, in bytes.
+const ARRAY_MOST: usize = 512;
+
 /// The names of the lent arrays, in the driver's order.
 const ARRAYS: [&str; 4] = ["state", "table", "reply", "input"];
 
@@ -114,6 +117,10 @@ impl Call {
         to.extend(self.item.to_le_bytes());
         to.extend(self.value.to_le_bytes());
         for array in &lent {
+            assert!(
+                array.len() <= ARRAY_MOST,
+                "the driver has no room for {self}"
+            );
             to.extend((array.len() as u32).to_le_bytes());
         }
         for array in &lent {

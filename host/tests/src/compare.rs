@@ -24,7 +24,7 @@ struct Batch {
 }
 
 impl Batch {
-    /// The calls, each with its place and that of its answer.
+    /// The calls, each with the place of its answer.
     fn parts(&self) -> impl Iterator<Item = (&Call, std::ops::Range<usize>)> {
         let starts = std::iter::once(&0).chain(&self.ends);
         let answers = starts.zip(&self.ends).map(|(start, end)| *start..*end);
@@ -39,7 +39,7 @@ pub struct Compare {
     /// The batch that the library works on.
     running: Batch,
     /// Calls whose outcomes were found the same.
-    same: u64,
+    calls: u64,
     /// How often each number was given back.
     counts: [u64; 256],
 }
@@ -52,7 +52,7 @@ impl Compare {
             command,
             filling: Batch::default(),
             running: Batch::default(),
-            same: 0,
+            calls: 0,
             counts: [0; 256],
         })
     }
@@ -80,7 +80,7 @@ impl Compare {
     }
 
     pub fn calls(&self) -> u64 {
-        self.same
+        self.calls
     }
 
     pub fn count(&self, number: usize) -> u64 {
@@ -91,8 +91,12 @@ impl Compare {
     fn turn(&mut self) -> Checked<()> {
         let batch = std::mem::take(&mut self.running);
         match self.library.receive(batch.answers.len()) {
-            Ok(answers) => self.compare(&batch, &answers)?,
-            Err(_) => return Err(self.ended_at(&batch)),
+            Ok(answers) => {
+                for (call, place) in batch.parts() {
+                    self.same(call, &batch.answers[place.clone()], &answers[place])?;
+                }
+            }
+            Err(_) => self.one_by_one(&batch)?,
         }
         self.running = std::mem::take(&mut self.filling);
         self.library
@@ -100,43 +104,42 @@ impl Compare {
             .map_err(|error| Failure(format!("the driver takes no more requests: {error}")))
     }
 
-    fn compare(&mut self, batch: &Batch, answers: &[u8]) -> Checked<()> {
-        for (call, place) in batch.parts() {
-            let (ours, theirs) = (&batch.answers[place.clone()], &answers[place]);
-            if ours != theirs {
-                return Err(Failure(format!(
-                    "call {} differs\n{call}\nreference: {}\nlibrary: {}",
-                    self.same + 1,
-                    call.shown(ours),
-                    call.shown(theirs)
-                )));
-            }
-            self.same += 1;
+    /// Compares the answers to one call.
+    fn same(&mut self, call: &Call, reference: &[u8], library: &[u8]) -> Checked<()> {
+        if reference == library {
+            self.calls += 1;
+            return Ok(());
         }
-        Ok(())
+        Err(Failure(format!(
+            "call {} differs\n{call}\nreference: {}\nlibrary: {}",
+            self.calls + 1,
+            call.shown(reference),
+            call.shown(library)
+        )))
     }
 
-    /// The library has ended the driver somewhere in a batch: its calls are made one at a time to
-    /// find where.
-    fn ended_at(&mut self, batch: &Batch) -> Failure {
-        let mut library = match started(&self.command) {
-            Ok(library) => library,
-            Err(failure) => return failure,
-        };
+    /// The library has ended its driver somewhere in a batch. The calls are made again, each as a
+    /// batch of its own, to find where.
+    fn one_by_one(&mut self, batch: &Batch) -> Checked<()> {
+        self.library = started(&self.command)?;
         for (call, place) in batch.parts() {
             let mut request = vec![];
             call.request(&mut request);
-            let answered = library.send(&request).and(library.receive(place.len()));
-            if answered.is_err() {
-                let number = self.same + 1;
-                return Failure(format!("call {number} ends the library's program\n{call}"));
+            let sent = self.library.send(&request);
+            match sent.and_then(|()| self.library.receive(place.len())) {
+                Ok(answer) => self.same(call, &batch.answers[place], &answer)?,
+                Err(_) => {
+                    let number = self.calls + 1;
+                    return Err(Failure(format!("call {number} ends the driver\n{call}")));
+                }
             }
-            self.same += 1;
         }
-        Failure("the library's program ended, and not again in the same calls".to_string())
+        Err(Failure(
+            "the driver ended, and not again in the same calls".to_string(),
+        ))
     }
 }
 
 fn started(command: &[String]) -> Checked<Library> {
-    Library::start(command).map_err(|error| Failure(format!("{} : {error}", command.join(" "))))
+    Library::start(command).map_err(|error| Failure(format!("{}: {error}", command.join(" "))))
 }

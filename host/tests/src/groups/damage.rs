@@ -7,11 +7,8 @@ use crate::random::Random;
 use crate::shapes::{good_table, pattern};
 use reference::modbus::with_crc;
 
-/// A right frame for address 1 that would be acted on if it is 8 bytes long, with the settings of
-/// the call that hears it.
-struct Sent {
-    call: Call,
-}
+/// The call that hears a right frame for address 1. One of 8 bytes would be acted on.
+struct Sent(Call);
 
 impl Sent {
     fn any(random: &mut Random, length: usize) -> Sent {
@@ -23,25 +20,23 @@ impl Sent {
         }
         body.extend(random.bytes(length));
         body.truncate(length - 2);
-        Sent {
-            call: Call {
-                address: 1,
-                table: good_table(random),
-                reply: pattern(random, 256),
-                input: with_crc(body),
-                ..Call::new(Function::Rtu)
-            },
-        }
+        Sent(Call {
+            address: 1,
+            table: good_table(random),
+            reply: pattern(random, 256),
+            input: with_crc(body),
+            ..Call::new(Function::Rtu)
+        })
     }
 
     fn bits(&self) -> usize {
-        8 * self.call.input.len()
+        8 * self.0.input.len()
     }
 
     /// Hears the frame with these bits flipped. It must be refused as a wrong CRC, with no reply
     /// and nothing changed.
     fn flipped(&self, compare: &mut Compare, bits: &[usize]) -> Checked<()> {
-        let mut call = self.call.clone();
+        let mut call = self.0.clone();
         for bit in bits {
             call.input[bit / 8] ^= 1 << (bit % 8);
         }
@@ -55,8 +50,8 @@ impl Sent {
 
     /// Flips the bits that a pattern has, from a place on.
     fn burst(&self, compare: &mut Compare, at: usize, pattern: u32) -> Checked<()> {
-        let bits: Vec<usize> = (0..16).filter(|bit| pattern >> bit & 1 == 1).collect();
-        let bits: Vec<usize> = bits.iter().map(|bit| at + bit).collect();
+        let set = (0..16).filter(|bit| pattern >> bit & 1 == 1);
+        let bits: Vec<usize> = set.map(|bit| at + bit).collect();
         self.flipped(compare, &bits)
     }
 }

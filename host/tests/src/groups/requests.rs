@@ -101,7 +101,7 @@ fn long(random: &mut Random, length: usize, function: u8) -> Vec<u8> {
     with_crc(body)
 }
 
-/// A good request after something has happened to it. Most have a right CRC again.
+/// A good request after something has happened to it, half of the time before its CRC was made.
 fn mutated(random: &mut Random) -> Vec<u8> {
     let function = random.pick(&[0x03, 0x06, 0x08]);
     let mut frame = words(
@@ -110,7 +110,7 @@ fn mutated(random: &mut Random) -> Vec<u8> {
         random.below(20) as u16,
         random.below(20) as u16,
     );
-    match random.below(6) {
+    match random.below(10) {
         0 => frame.swap(6, 7),
         1 => frame.truncate(random.below(8)),
         2 => frame.extend(random.bytes(3)),
