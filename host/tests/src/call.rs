@@ -164,7 +164,8 @@ impl fmt::Display for Call {
     fn fmt(&self, to: &mut fmt::Formatter<'_>) -> fmt::Result {
         write!(
             to,
-            "{:?} address {:02X} structure {:02X} byte {:02X} decimals {:02X} now {:08X} item {:08X} value {:08X}",
+            "{:?} address {:02X} structure {:02X} byte {:02X} decimals {:02X} \
+             now {:08X} item {:08X} value {:08X}",
             self.function,
             self.address,
             self.structure,
