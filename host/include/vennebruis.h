@@ -48,7 +48,7 @@ enum vb_number {
     /* The caller's faults: no reply, nothing changed. */
     VB_WRONG_LENGTH = 1,      /* the table does not have VB_TABLE_ENTRIES entries */
     VB_ENTRY_OUTSIDE = 2,     /* an entry of the table lies outside its item's range */
-    VB_SHORT_BUFFER = 3,      /* the reply buffer has fewer than VB_REPLY_BYTES bytes */
+    VB_SHORT_BUFFER = 3,      /* reply buffer under VB_REPLY_BYTES, or text under VB_TEXT_BYTES */
     VB_BAD_SETTING = 4,       /* address over 99, or 0 for Modbus; structure over 2 */
     VB_BAD_STATE = 5,         /* the link state is outside its limits, or not VB_STATE_BYTES long */
     VB_NO_SUCH_ITEM = 6,      /* put: the item number is not 1 to 12 */
