@@ -1,0 +1,4 @@
+pub mod Parts
+pub mod Packing
+pub mod Replies
+pub mod Holding

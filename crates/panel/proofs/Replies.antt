@@ -1,0 +1,156 @@
+-- What the steps of the link hand back, as far as holding it needs: a short reply, and never a state of another length unless
+-- with a fault.
+-- Assumes nothing.
+use mathlib.Core.Path.{_≡_, refl, sym, _∙_}
+use mathlib.Core.Bool.{Bool, true, false, cond, _&&_}
+use mathlib.Core.List.{List, [], _∷_}
+use Prim.Native.Nat.{ℕ, _≤_}
+use native.Mathlib.Omega.{arith}
+use borrow.Author.Tests.{eqb-true, eqb-false, le-leb}
+use lib.Dec.{eqb, leb}
+use lib.IntN.{ℤ}
+use lib.ListN.{length, length-append, length-map}
+use Rattle.sign.proofs.Laws.{contrary}
+use Rattle.items.specs.declared.Found.{Found}
+use Rattle.items.specs.declared.Found.the-variants.{At, Nothing}
+use Rattle.items.specs.ItemList.{items, itemList, itemAt, found}
+use Rattle.items.specs.Table.{none, wrongLength, allInRange, tableFault, answered}
+use Rattle.text.specs.Writing.{written}
+use Rattle.text.proofs.Texts.{written-length}
+use Rattle.phases.specs.Phases.{waiting}
+use Rattle.phases.specs.declared.Act.{Act}
+use Rattle.phases.specs.declared.Act.the-variants.{Go, First, Both, More, Ended, Quit, Poll, Send, Judge}
+use Rattle.block.specs.Block.{verdict}
+use Rattle.block.specs.declared.Verdict.{Verdict}
+use Rattle.block.specs.declared.Verdict.the-variants.{Store, Refuse}
+use Rattle.rkc.specs.declared.Link.{Link}
+use Rattle.rkc.specs.State.{inPhase, used, inLimits}
+use Rattle.rkc.specs.Outcome.{Step, Outcome, dataReply, itemSent, polled, judged, performed, received}
+use Rattle.rkc.specs.Outcome.{unless, leastBuffer, shortBuffer, badSetting, badState, callFault, goodSettings, byteFault, elapsed, patience, idleFault, passed, idled}
+use Rattle.rkc.proofs.Cases.{byte-none, call-none}
+use Rattle.panel.specs.State.{stateBytes, fields, unknownPhase, unpacked}
+use Rattle.panel.specs.Calls.{isCallFault}
+use Rattle.panel.specs.Promise.{longestReply}
+
+-- what holds of both answers holds of the one that a test picks
+either : {A : Type 0} (P : A → Type 0) (test : Bool) {x y : A} → P x → P y → P (cond test x y)
+either P true p q = p
+either P false p q = q
+
+-- ---- a step's reply
+
+abbrev Short : Step → Type 0
+Short s = length (s .reply) ≤ longestReply
+
+item-short : (structure time : ℕ) (t : List ℤ) (i : ℕ) → Short (itemSent structure time t i)
+unfolding itemSent dataReply
+item-short structure time t i =
+    either Short (eqb (written 6 (itemAt i .decimals) (answered t i) .number) none)
+    (simp (length-map, length-append, written-length 6 (itemAt i .decimals) (answered t i) (omega arith)) (omega arith))
+    (omega arith)
+
+polled-short : (structure time : ℕ) (t : List ℤ) (f : Found) → Short (polled structure time t f)
+polled-short structure time t (At i) = item-short structure time t i
+polled-short structure time t Nothing = omega arith
+
+judged-short : (structure : ℕ) (t : List ℤ) (v : Verdict) → Short (judged structure t v .step)
+judged-short structure t (Store i v) = omega arith
+judged-short structure t (Refuse n) = omega arith
+
+performed-short : (l : Link) (t : List ℤ) (structure time : ℕ) (x : Act) → Short (performed l t structure time x .step)
+unfolding performed
+performed-short l t structure time (Go phase) = omega arith
+performed-short l t structure time (First a) = omega arith
+performed-short l t structure time (Both a b) = omega arith
+performed-short l t structure time (More c) = omega arith
+performed-short l t structure time Ended = omega arith
+performed-short l t structure time (Quit number) = omega arith
+performed-short l t structure time (Poll a b) = polled-short structure time t (found a b)
+performed-short l t structure time (Send item) = item-short structure time t _
+performed-short l t structure time (Judge c) = judged-short structure t (verdict (l .mark) (l .bcc) (l .count) (l .kept) c)
+
+passed-short : (l : Link) (structure time : ℕ) → Short (passed l structure time)
+passed-short l structure time =
+    either Short (eqb (l .phase) waiting && leb patience (elapsed time (l .time))) (omega arith) (omega arith)
+
+-- ---- the caller's faults are numbered up to that of a bad state
+
+abbrev UpToLast : ℕ → Type 0
+UpToLast n = n ≤ badState
+
+unless-up-to : (test : Bool) (n : ℕ) → UpToLast n → UpToLast (unless test n)
+unless-up-to test n h = either UpToLast test (omega arith) h
+
+nothing-up-to : UpToLast none
+nothing-up-to = omega arith
+
+-- the first that is met of a number and those after it
+met-up-to : (n next : ℕ) → UpToLast n → UpToLast next → UpToLast (cond (eqb n none) next n)
+met-up-to n next h hs = either UpToLast (eqb n none) hs h
+
+table-up-to : (t : List ℤ) → UpToLast (tableFault t)
+unfolding tableFault
+table-up-to t =
+    either UpToLast (eqb (length t) items) (either UpToLast (allInRange itemList t) (omega arith) (omega arith)) (omega arith)
+
+call-up-to : (l : Link) (buffer : ℕ) (settings : Bool) → UpToLast (callFault l buffer settings)
+unfolding callFault
+call-up-to l buffer settings =
+    met-up-to _ _ (unless-up-to (leb leastBuffer buffer) shortBuffer (omega arith))
+    (met-up-to _ _ (unless-up-to settings badSetting (omega arith))
+    (met-up-to _ _ (unless-up-to (inLimits l) badState (omega arith)) nothing-up-to))
+
+byte-up-to : (l : Link) (t : List ℤ) (buffer address structure : ℕ) → UpToLast (byteFault l t buffer address structure)
+unfolding byteFault
+byte-up-to l t buffer address structure =
+    met-up-to _ _ (table-up-to t) (met-up-to _ _ (call-up-to l buffer (goodSettings address structure)) nothing-up-to)
+
+-- ---- bytes of another length hold a state outside its limits
+
+in-limits-whole : (s : List ℕ) → inLimits (unpacked s) ≡ true → length s ≡ stateBytes
+unfolding unpacked inLimits
+in-limits-whole s h = by (eqb (length s) stateBytes) refl h
+  where
+    by : (b : Bool) → eqb (length s) stateBytes ≡ b → inLimits (cond b (fields s) (inPhase unknownPhase)) ≡ true → length s ≡ stateBytes
+    by true e k = eqb-true _ _ e
+    by false e k = contrary (sym k)
+
+-- whatever is handed back, with a number: x where there is no fault f, and else y, which has the fault's number
+module _ (s : List ℕ) (f : ℕ) (most : UpToLast f) (fine : f ≡ none → inLimits (unpacked s) ≡ true) where
+  whole-by : {A : Type 0} (number : A → ℕ) (x y : A) → number y ≡ f → isCallFault (number (cond (eqb f none) x y)) ≡ false
+      → length s ≡ stateBytes
+  whole-by number x y ey = by (eqb f none) refl
+    where
+      fault : (f ≡ none → ⊥) → isCallFault f ≡ true
+      fault n = rw (le-leb wrongLength f (omega arith), le-leb f badState most)
+
+      by : (b : Bool) → eqb f none ≡ b → isCallFault (number (cond b x y)) ≡ false → length s ≡ stateBytes
+      by true e k = in-limits-whole s (fine (eqb-true _ _ e))
+      by false e k = contrary (sym (fault (eqb-false _ _ e)) ∙ (rw ey at k))
+
+-- ---- the two calls
+
+module _ (s : List ℕ) (t : List ℤ) (buffer address structure time byte : ℕ) where
+  pub received-short : length (received (unpacked s) t buffer address structure time byte .step .reply) ≤ longestReply
+  unfolding received
+  received-short =
+      either (λ (o : Outcome). Short (o .step)) (eqb (byteFault (unpacked s) t buffer address structure) none)
+      (performed-short _ t structure time _) (omega arith)
+
+  pub received-whole : isCallFault (received (unpacked s) t buffer address structure time byte .step .number) ≡ false → length s ≡ stateBytes
+  unfolding received
+  received-whole =
+      whole-by s (byteFault (unpacked s) t buffer address structure) (byte-up-to (unpacked s) t buffer address structure)
+      (λ z. call-none _ _ _ (byte-none _ _ _ _ _ z .1) .2) (λ (o : Outcome). o .step .number) _ _ refl
+
+module _ (s : List ℕ) (buffer structure time : ℕ) where
+  pub idled-short : length (idled (unpacked s) buffer structure time .reply) ≤ longestReply
+  unfolding idled
+  idled-short =
+      either Short (eqb (idleFault (unpacked s) buffer structure) none) (passed-short (used (unpacked s)) structure time) (omega arith)
+
+  pub idled-whole : isCallFault (idled (unpacked s) buffer structure time .number) ≡ false → length s ≡ stateBytes
+  unfolding idled idleFault
+  idled-whole =
+      whole-by s (idleFault (unpacked s) buffer structure) (call-up-to (unpacked s) buffer (leb structure 2))
+      (λ z. call-none _ _ _ z .2) (λ (o : Step). o .number) _ _ refl

@@ -1,0 +1,30 @@
+-- `panel::vb_start_link` meets its contract: bytes of another length stay, and else hold the start state. Assumes nothing.
+use borrow.Author.Needs.{needs}
+use mathlib.Core.Path.{ap, _∙_}
+use borrow.Author.Tests.{eq-eqb, ne-eqb}
+use Rattle.panel.specs.State.{packed}
+use Rattle.panel.proofs.vb_start_link.Statement.{statement}
+use Rattle.panel.proofs.vb_start_link.Tie as tie
+
+returns : tie.Need-returns
+returns c =
+    let other = ne-eqb _ _ (c .if1 .taken) in
+    record { given = rw other; left = rw other }
+
+start-requires : tie.Need-start-requires
+start-requires c κs = search needs
+
+pack-requires : tie.Need-pack-requires
+pack-requires c κs = search needs
+
+same-length : tie.Need-same-length
+same-length c = search needs
+
+returns-2 : tie.Need-returns-2
+returns-2 c =
+    let whole = eq-eqb _ _ (c .before .before .before .before .before .if1 .left) in
+    record { given = rw whole; left = c .before .before .pack .ensures ∙ ap packed (c .before .before .before .start .ensures) ∙ rw whole }
+
+pub vb-start-link-spec : {M : Type 1} → statement M
+vb-start-link-spec =
+    tie.close (tie.spec returns start-requires pack-requires same-length returns-2)

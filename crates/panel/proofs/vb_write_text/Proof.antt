@@ -1,0 +1,40 @@
+-- `panel::vb_write_text` meets its contract: without room nothing is written, and else what `text::write` gives. Assumes nothing.
+use borrow.Author.Needs.{needs}
+use mathlib.Core.Path.{ap, _∙_}
+use borrow.Author.Tests.{le-leb, lt-leb}
+use Rattle.sign.proofs.Laws.{read-back}
+use Rattle.text.specs.Writing.{written}
+use Rattle.panel.specs.Calls.{width}
+use Rattle.panel.proofs.vb_write_text.Statement.{statement}
+use Rattle.panel.proofs.vb_write_text.Tie as tie
+
+returns : tie.Need-returns
+returns c =
+    let narrow = lt-leb _ _ (c .if1 .taken) in
+    record { given = rw narrow; left = rw narrow }
+
+write-requires : tie.Need-write-requires
+write-requires c κs = search needs
+
+put-six-requires : tie.Need-put-six-requires
+put-six-requires c κs = search needs
+
+cast-result : tie.Need-cast-result
+cast-result c = search needs
+
+same-length : tie.Need-same-length
+same-length c = search needs
+
+returns-2 : tie.Need-returns-2
+returns-2 c =
+    let s = c .before .before .before .before .before .before .before .before .before in
+    let wide = le-leb _ _ (c .before .before .before .before .before .before .before .if1 .left) in
+    let text = c .before .before .before .before .before .before .write .ensures ∙ ap (written width (s .args .decimals)) (read-back (s .args .value) (s .fits .value)) in
+    record {
+      given = rw (wide, text);
+      left = c .before .before .before .put-six .ensures ∙ rw (wide, text);
+    }
+
+pub vb-write-text-spec : {M : Type 1} → statement M
+vb-write-text-spec =
+    tie.close (tie.spec returns write-requires put-six-requires cast-result same-length returns-2)

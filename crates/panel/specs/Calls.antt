@@ -1,0 +1,53 @@
+-- What the functions of the C face give back and leave, where that is not a definition of a crate below as it stands.
+use mathlib.Core.Bool.{Bool, cond, _&&_}
+use mathlib.Core.List.{List}
+use Prim.Native.Nat.{ℕ, _+_, _*_}
+use lib.Dec.{eqb, leb}
+use lib.IntN.{ℤ}
+use lib.ListN.{length}
+use lib.Seq.{sets}
+use Rattle.items.specs.Table.{none, wrongLength}
+use Rattle.text.specs.Writing.{written}
+use Rattle.phases.specs.Phases.{rest}
+use Rattle.rkc.specs.declared.Link.{Link}
+use Rattle.rkc.specs.State.{inPhase}
+use Rattle.rkc.specs.Outcome.{shortBuffer, badState}
+use Rattle.panel.specs.State.{stateBytes, packed}
+
+-- the number and the length of the reply in one
+abbrev pub result : ℕ → ℕ → ℕ
+result number len = number + 256 * len
+
+-- the numbers that hand the state back as it came: 1 to 5
+abbrev pub isCallFault : ℕ → Bool
+isCallFault number = leb wrongLength number && leb number badState
+
+-- the bytes of the state after a step that gave this number and handed this state back
+abbrev pub heldAfter : List ℕ → ℕ → Link → List ℕ
+heldAfter s number l = cond (isCallFault number) s (packed l)
+
+-- ---- the start of a link
+
+abbrev pub isState : List ℕ → Bool
+isState s = eqb (length s) stateBytes
+
+abbrev pub linkStartNumber : List ℕ → ℕ
+linkStartNumber s = cond (isState s) none badState
+
+-- rest, all else 0
+abbrev pub linkStart : List ℕ → List ℕ
+linkStart s = cond (isState s) (packed (inPhase rest)) s
+
+-- ---- writing text
+
+-- as many characters as a written number has
+abbrev pub width : ℕ
+width = 6
+
+-- the room is looked at first
+abbrev pub textNumber : ℕ → ℤ → List ℕ → ℕ
+textNumber d v cs = cond (leb width (length cs)) (written width d v .number) shortBuffer
+
+-- the six characters stand at the front, zeros where the value was refused; without room for them nothing is written
+abbrev pub textLeft : ℕ → ℤ → List ℕ → List ℕ
+textLeft d v cs = cond (leb width (length cs)) (sets cs 0 (written width d v .chars)) cs

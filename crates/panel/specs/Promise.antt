@@ -1,0 +1,50 @@
+-- What the promises of the C face say of a result and of all that was lent, as it is left.
+use Prim.Native.Nat.{ℕ, _≤_}
+use mathlib.Core.Bool.{false}
+use mathlib.Core.Path.{_≡_}
+use mathlib.Core.List.{List}
+use lib.IntN.{ℤ}
+use lib.ListN.{length}
+use lib.Seq.{sets}
+use Rattle.rkc.specs.declared.Stepped.{Stepped}
+use Rattle.rkc.specs.Outcome.{Step, Outcome}
+use Rattle.text.specs.declared.Reading.{Reading}
+use Rattle.text.specs.Numbers.{numberOf, valueOf}
+use Rattle.panel.specs.State.{stateBytes}
+use Rattle.panel.specs.Calls.{result, isCallFault, heldAfter}
+
+-- it gives back this number, and leaves the bytes so
+pub record LentBytes (number : ℕ) (bytes : List ℕ) (r : ℕ) (after : List ℕ) : Type 0 where
+  pub given : r ≡ number
+  pub left : after ≡ bytes
+
+-- it gives back the number of this reading, and leaves its value, 0 where the text was refused
+pub record ReadText (reading : Reading) (r : ℕ) (value : ℤ) : Type 0 where
+  pub given : r ≡ numberOf reading
+  pub left : value ≡ valueOf reading
+
+-- the longest reply that a line has
+abbrev pub longestReply : ℕ
+longestReply = 256
+
+-- what a step may hand back to be held: a reply that is not too long, and a state for 24 bytes unless the call had a fault
+pub record Holdable (r : Stepped) (state : List ℕ) : Type 0 where
+  pub short : r .len ≤ longestReply
+  pub whole : isCallFault (r .number) ≡ false → length state ≡ stateBytes
+
+-- it gives back the number and the reply's length, and holds the state
+pub record Held (r : Stepped) (n : ℕ) (state held : List ℕ) : Type 0 where
+  pub given : n ≡ result (r .number) (r .len)
+  pub holds : held ≡ heldAfter state (r .number) (r .link)
+
+-- it gives back the number and the reply's length of this step, and leaves the state so; the reply stands at the buffer's
+-- front, and the bytes past it stay
+pub record StepLeft (step : Step) (r : ℕ) (state held before after : List ℕ) : Type 0 where
+  pub given : r ≡ result (step .number) (length (step .reply))
+  pub holds : held ≡ heldAfter state (step .number) (step .link)
+  pub sent : after ≡ sets before 0 (step .reply)
+
+-- the same, and the table is left so
+pub record ByteLeft (outcome : Outcome) (r : ℕ) (state held before after : List ℕ) (table : List ℤ) : Type 0 where
+  pub step : StepLeft (outcome .step) r state held before after
+  pub left : table ≡ outcome .table

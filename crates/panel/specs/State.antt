@@ -1,0 +1,59 @@
+-- The link state as firmware holds it, in 24 bytes: 0 phase, 1 item, 2 count, 3 BCC, 4 mark, 8 to 11 time with the low byte
+-- first, 12 to 19 kept characters. The other bytes are ignored going in and 0 coming out.
+use mathlib.Core.Bool.{Bool, false, cond, not}
+use mathlib.Core.List.{List, [], _∷_, _++_}
+use Prim.Native.Nat.{ℕ, zero, suc, _+_, _*_, _/_, _%_}
+use lib.Dec.{eqb}
+use lib.ListN.{length, getD}
+use lib.Seq.{slice}
+use Rattle.rkc.specs.declared.Link.{Link}
+use Rattle.rkc.specs.State.{inPhase}
+
+abbrev pub stateBytes : ℕ
+stateBytes = 24
+
+-- any byte but 0 marks
+abbrev pub isMarked : ℕ → Bool
+isMarked byte = not (eqb byte 0)
+
+abbrev pub markByte : Bool → ℕ
+markByte mark = cond mark 1 0
+
+-- the number that bytes make, the low one first
+abbrev pub fromLow : List ℕ → ℕ
+fromLow [] = 0
+fromLow (b ∷ bs) = b + 256 * fromLow bs
+
+-- the low k bytes of a number, the lowest first
+abbrev pub lowFirst : ℕ → ℕ → List ℕ
+lowFirst zero n = []
+lowFirst (suc k) n = n % 256 ∷ lowFirst k (n / 256)
+
+-- each field at its place
+abbrev pub fields : List ℕ → Link
+fields s =
+    record {
+      phase = getD s 0 0;
+      item = getD s 1 0;
+      count = getD s 2 0;
+      bcc = getD s 3 0;
+      mark = isMarked (getD s 4 0);
+      kept = slice 12 20 s;
+      time = fromLow (slice 8 12 s);
+    }
+
+-- a phase that no link has
+abbrev pub unknownPhase : ℕ
+unknownPhase = 255
+
+-- the state that bytes hold: those of another length hold an unknown phase, so that each step refuses them in its place among
+-- the faults
+unfoldable pub unpacked : List ℕ → Link
+unpacked s = cond (eqb (length s) stateBytes) (fields s) (inPhase unknownPhase)
+
+-- the bytes that hold a state
+unfoldable pub packed : Link → List ℕ
+packed l =
+    l .phase ∷ l .item ∷ l .count ∷ l .bcc
+    ∷ markByte (l .mark) ∷ 0 ∷ 0 ∷ 0
+    ∷ (lowFirst 4 (l .time) ++ (l .kept ++ (0 ∷ 0 ∷ 0 ∷ 0 ∷ [])))
