@@ -2,3 +2,4 @@ pub mod Parts
 pub mod Packing
 pub mod Replies
 pub mod Holding
+pub mod Single

@@ -1,18 +1,18 @@
 -- The state's bytes: a state comes back whole from its own bytes, which are 24; and what the code's runs of stores lay out.
 -- Assumes nothing.
-use mathlib.Core.Path.{_≡_, refl, sym, ap, _∙_}
-use mathlib.Core.Bool.{Bool, true, false, cond}
+use mathlib.Core.Path.{_≡_, refl, sym, _∙_}
+use mathlib.Core.Bool.{Bool, true, false}
 use mathlib.Core.List.{List, [], _∷_, _++_}
-use Prim.Native.Nat.{ℕ, zero, suc, _+_, _*_, _/_, _%_, _<_, _^_}
+use mathlib.Core.Logic.{_⊎_, inl, inr, ⊎-elim, ⊎-map}
+use Prim.Native.Nat.{ℕ, zero, suc, _/_, _≤_, _<_, _^_}
 use native.Mathlib.Nat.{pow-suc}
 use native.Mathlib.Omega.{arith}
 use borrow.Author.Tests.{eq-eqb, ne-eqb}
-use lib.Dec.{eqb}
-use lib.ListN.{length, length-append, take}
-use lib.Seq.{sets, take-at}
+use lib.ListN.{length, getD, take, set, length-append, length-set}
+use lib.Seq.{slice, sets, take-at, drop-at, take-all, getD-set-other, take-set-le, take-set-lt, drop-set-lt}
 use Rattle.rkc.specs.declared.Link.{Link}
 use Rattle.rkc.specs.State.{inPhase}
-use Rattle.panel.specs.State.{stateBytes, isMarked, markByte, fromLow, lowFirst, fields, unknownPhase, unpacked, packed}
+use Rattle.panel.specs.State.{stateBytes, isMarked, markByte, fromLow, lowFirst, fields, unknownPhase, unpacked, packed, HoldsNothing}
 use Rattle.panel.proofs.Parts.{sets-append, sets-all}
 
 -- the bytes past the kept characters
@@ -42,6 +42,36 @@ pub unpacked-packed : (l : Link) → length (l .kept) ≡ 8 → l .time < 2 ^ 32
 unfolding unpacked packed
 unpacked-packed l eight small =
     simp (eq-eqb (length (packed l)) stateBytes (packed-length l eight), mark-back (l .mark), take-at (l .kept) zeros 8 eight, number-back 4 (l .time) small)
+
+-- ---- bytes that hold nothing
+
+-- a part stays when a byte outside it changes
+part-other : (s : List ℕ) (f t i b : ℕ) → f ≤ t → (i < f) ⊎ (t ≤ i) → slice f t (set s i b) ≡ slice f t s
+part-other s f t i b k (inl h) = rw (take-set-lt t s i b (omega arith)) (drop-set-lt f (take t s) i b h)
+part-other s f t i b k (inr h) = rw (take-set-le t s i b h)
+
+-- they are ignored going in
+pub ignored : (s : List ℕ) (i b : ℕ) → HoldsNothing i → unpacked (set s i b) ≡ unpacked s
+unfolding unpacked
+ignored s i b h =
+    rw (length-set s i b, before 0 (omega arith), before 1 (omega arith), before 2 (omega arith), before 3 (omega arith), before 4 (omega arith), kept, time)
+  where
+    before : (j : ℕ) → j < 5 → getD (set s i b) j 0 ≡ getD s j 0
+    before j small =
+        getD-set-other s i j b 0
+        (λ e. let past : 4 < i = ⊎-elim (λ w. w .0) (λ w. omega arith) h in omega arith)
+
+    kept : slice 12 20 (set s i b) ≡ slice 12 20 s
+    kept = part-other s 12 20 i b (omega arith) (⊎-map (λ w. omega (arith, w .1)) (λ w. omega arith) h)
+
+    time : slice 8 12 (set s i b) ≡ slice 8 12 s
+    time = part-other s 8 12 i b (omega arith) (⊎-map (λ w. w .1) (λ w. omega arith) h)
+
+-- they are 0 coming out
+pub zero-out : (l : Link) → length (l .kept) ≡ 8 → (slice 5 8 (packed l) ≡ 0 ∷ 0 ∷ 0 ∷ []) × (slice 20 24 (packed l) ≡ zeros)
+unfolding packed
+zero-out l eight =
+    (refl, rw (take-all 12 (l .kept ++ zeros) (simp length-append (omega arith))) (drop-at (l .kept) zeros 8 eight))
 
 -- ---- what the code reads and lays out
 

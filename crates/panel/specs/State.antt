@@ -2,7 +2,8 @@
 -- first, 12 to 19 kept characters. The other bytes are ignored going in and 0 coming out.
 use mathlib.Core.Bool.{Bool, false, cond, not}
 use mathlib.Core.List.{List, [], _∷_, _++_}
-use Prim.Native.Nat.{ℕ, zero, suc, _+_, _*_, _/_, _%_}
+use mathlib.Core.Logic.{_⊎_}
+use Prim.Native.Nat.{ℕ, zero, suc, _+_, _*_, _/_, _%_, _<_}
 use lib.Dec.{eqb}
 use lib.ListN.{length, getD}
 use lib.Seq.{slice}
@@ -57,3 +58,7 @@ packed l =
     l .phase ∷ l .item ∷ l .count ∷ l .bcc
     ∷ markByte (l .mark) ∷ 0 ∷ 0 ∷ 0
     ∷ (lowFirst 4 (l .time) ++ (l .kept ++ (0 ∷ 0 ∷ 0 ∷ 0 ∷ [])))
+
+-- the bytes that hold nothing: 5, 6, 7, and 20 to 23
+abbrev pub HoldsNothing : ℕ → Type 0
+HoldsNothing i = ((4 < i) × (i < 8)) ⊎ (19 < i)

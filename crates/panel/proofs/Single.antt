@@ -1,0 +1,57 @@
+-- Two outcomes that meet the promise of one call are the same outcome: the result, and all that was lent.
+-- Assumes nothing.
+use mathlib.Core.Path.{_≡_}
+use mathlib.Core.List.{List}
+use Prim.Native.Nat.{ℕ}
+use lib.IntN.{ℤ}
+use lib.ListN.{length}
+use Rattle.sign.proofs.Single.{single}
+use Rattle.items.specs.Table.{startNumber, startTable, putNumber, putTable}
+use Rattle.items.specs.Promise.{Lent}
+use Rattle.items.proofs.Single.{lent-single}
+use Rattle.text.specs.Reading.{reading}
+use Rattle.rkc.specs.Outcome.{Step, received, idled}
+use Rattle.panel.specs.State.{unpacked}
+use Rattle.panel.specs.Calls.{linkStartNumber, linkStart, width, textNumber, textLeft}
+use Rattle.panel.specs.Promise.{LentBytes, ReadText, StepLeft, ByteLeft}
+
+lent-bytes-single : {n : ℕ} {bs : List ℕ} {r q : ℕ} {u w : List ℕ} → LentBytes n bs r u → LentBytes n bs q w → (r ≡ q) × (u ≡ w)
+lent-bytes-single x y = (single (x .given) (y .given), single (x .left) (y .left))
+
+step-left-single : {step : Step} {r q : ℕ} {s held kept before after other : List ℕ} → StepLeft step r s held before after
+    → StepLeft step q s kept before other → (r ≡ q) × (held ≡ kept) × (after ≡ other)
+step-left-single x y = (single (x .given) (y .given), single (x .holds) (y .holds), single (x .sent) (y .sent))
+
+pub start-table-single : (t : List ℤ) {r q : ℕ} {u w : List ℤ} → Lent (startNumber t) (startTable t) r u
+    → Lent (startNumber t) (startTable t) q w → (r ≡ q) × (u ≡ w)
+start-table-single t = lent-single
+
+pub start-link-single : (s : List ℕ) {r q : ℕ} {u w : List ℕ} → LentBytes (linkStartNumber s) (linkStart s) r u
+    → LentBytes (linkStartNumber s) (linkStart s) q w → (r ≡ q) × (u ≡ w)
+start-link-single s = lent-bytes-single
+
+pub byte-single : (s : List ℕ) (t : List ℤ) (reply : List ℕ) (address structure time byte : ℕ) {r q : ℕ} {held kept after other : List ℕ} {u w : List ℤ}
+    → ByteLeft (received (unpacked s) t (length reply) address structure time byte) r s held reply after u
+    → ByteLeft (received (unpacked s) t (length reply) address structure time byte) q s kept reply other w
+    → (r ≡ q) × (held ≡ kept) × (after ≡ other) × (u ≡ w)
+byte-single s t reply address structure time byte x y =
+    let p = step-left-single (x .step) (y .step) in (p .0, p .1, p .2, single (x .left) (y .left))
+
+pub idle-single : (s reply : List ℕ) (structure time : ℕ) {r q : ℕ} {held kept after other : List ℕ}
+    → StepLeft (idled (unpacked s) (length reply) structure time) r s held reply after
+    → StepLeft (idled (unpacked s) (length reply) structure time) q s kept reply other
+    → (r ≡ q) × (held ≡ kept) × (after ≡ other)
+idle-single s reply structure time = step-left-single
+
+pub put-single : (t : List ℤ) (item : ℕ) (value : ℤ) {r q : ℕ} {u w : List ℤ} → Lent (putNumber t item value) (putTable t item value) r u
+    → Lent (putNumber t item value) (putTable t item value) q w → (r ≡ q) × (u ≡ w)
+put-single t item value = lent-single
+
+pub read-text-single : (decimals : ℕ) (chars : List ℕ) {r q : ℕ} {u w : ℤ} → ReadText (reading width decimals chars) r u
+    → ReadText (reading width decimals chars) q w → (r ≡ q) × (u ≡ w)
+read-text-single decimals chars x y = (single (x .given) (y .given), single (x .left) (y .left))
+
+pub write-text-single : (decimals : ℕ) (value : ℤ) (chars : List ℕ) {r q : ℕ} {u w : List ℕ}
+    → LentBytes (textNumber decimals value chars) (textLeft decimals value chars) r u
+    → LentBytes (textNumber decimals value chars) (textLeft decimals value chars) q w → (r ≡ q) × (u ≡ w)
+write-text-single decimals value chars = lent-bytes-single
