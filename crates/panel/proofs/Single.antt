@@ -13,7 +13,7 @@ use Rattle.text.specs.Reading.{reading}
 use Rattle.rkc.specs.Outcome.{Step, received, idled}
 use Rattle.panel.specs.State.{unpacked}
 use Rattle.panel.specs.Calls.{linkStartNumber, linkStart, width, textNumber, textLeft}
-use Rattle.panel.specs.Promise.{LentBytes, ReadText, StepLeft, ByteLeft}
+use Rattle.panel.specs.Promise.{LentBytes, ReadText, StepLeft, ByteLeft, FrameLeft}
 
 lent-bytes-single : {n : ℕ} {bs : List ℕ} {r q : ℕ} {u w : List ℕ} → LentBytes n bs r u → LentBytes n bs q w → (r ≡ q) × (u ≡ w)
 lent-bytes-single x y = (single (x .given) (y .given), single (x .left) (y .left))
@@ -42,6 +42,11 @@ pub idle-single : (s reply : List ℕ) (structure time : ℕ) {r q : ℕ} {held 
     → StepLeft (idled (unpacked s) (length reply) structure time) q s kept reply other
     → (r ≡ q) × (held ≡ kept) × (after ≡ other)
 idle-single s reply structure time = step-left-single
+
+pub rtu-single : (table : List ℤ) (reply : List ℕ) (address : ℕ) (frame : List ℕ) {r q : ℕ} {after other : List ℕ} {u w : List ℤ}
+    → FrameLeft table reply address frame r after u → FrameLeft table reply address frame q other w → (r ≡ q) × (after ≡ other) × (u ≡ w)
+rtu-single table reply address frame x y =
+    (single (x .given) (y .given), single (x .sent) (y .sent), single (x .leaves) (y .leaves))
 
 pub put-single : (t : List ℤ) (item : ℕ) (value : ℤ) {r q : ℕ} {u w : List ℤ} → Lent (putNumber t item value) (putTable t item value) r u
     → Lent (putNumber t item value) (putTable t item value) q w → (r ≡ q) × (u ≡ w)

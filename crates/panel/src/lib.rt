@@ -12,7 +12,7 @@ ghost use Rattle.text.specs.Reading.{reading};
 ghost use Rattle.rkc.specs.Outcome.{received, idled};
 ghost use Rattle.panel.specs.State.{stateBytes, isMarked, markByte, fromLow, lowFirst, unpacked, packed};
 ghost use Rattle.panel.specs.Calls.{result, isCallFault, linkStartNumber, linkStart, textNumber, textLeft, width};
-ghost use Rattle.panel.specs.Promise.{LentBytes, ReadText, longestReply, Holdable, Held, StepLeft, ByteLeft};
+ghost use Rattle.panel.specs.Promise.{LentBytes, ReadText, longestReply, Holdable, Held, StepLeft, ByteLeft, FrameLeft};
 use rkc::Link;
 use rkc::Stepped;
 
@@ -239,6 +239,15 @@ pub extern "C" fn vb_idle(state: &mut [u8], reply: &mut [u8], structure: u8, tim
     let link = unpack(&state[..]);
     let stepped = link.idle(reply, structure, time);
     hold(state, stepped)
+}
+
+// One RTU frame.
+#[no_mangle]
+pub extern "C" fn vb_rtu(table: &mut [i32], reply: &mut [u8], address: u8, frame: &[u8]) -> u32
+    ensures { λ r. ⌜ FrameLeft (now (table .entry)) (now (reply .entry)) address (now (frame .entry)) r (now (reply .exit)) (now (table .exit)) ⌝ }
+{
+    let answered = rtu::frame(table, reply, address, frame);
+    result(answered.number, answered.len)
 }
 
 // The firmware sets an item, by its number from 1.
