@@ -1,0 +1,29 @@
+/* The Modbus requests that are measured. Every implementation is given the same ones, holds the
+ * same values, and so has to give the same replies. */
+#ifndef FRAMES_H
+#define FRAMES_H
+
+#include <stddef.h>
+#include <stdint.h>
+
+enum { ADDRESS = 1, SHORT = 8, LONG = 256 };
+
+struct request {
+    const char *name;
+    size_t n;
+    uint8_t bytes[LONG];
+};
+
+/* The last two have a wrong CRC: what the longer one takes more than the shorter one is the CRC of
+ * 248 bytes. */
+static struct request requests[] = {
+    {"read", SHORT, {ADDRESS, 0x03, 0x00, 0x00, 0x00, 0x13, 0x04, 0x07}},     /* all 19 registers */
+    {"write", SHORT, {ADDRESS, 0x06, 0x00, 0x10, 0xFF, 0x6A, 0x49, 0xD0}},    /* PB to -1.50 */
+    {"loopback", SHORT, {ADDRESS, 0x08, 0x00, 0x00, 0x1F, 0x34, 0xE9, 0xEC}}, /* 004's example */
+    {"damaged-short", SHORT, {ADDRESS}},
+    {"damaged-long", LONG, {ADDRESS}},
+};
+
+enum { REQUESTS = sizeof requests / sizeof requests[0] };
+
+#endif

@@ -1,0 +1,63 @@
+//! The C functions of the link over the reference, so that the program that measures the library
+//! measures the reference too. Only those that it calls are here.
+
+use std::slice::{from_raw_parts, from_raw_parts_mut};
+
+/// # Safety
+/// `table` has `n` entries.
+#[no_mangle]
+pub unsafe extern "C" fn vb_start_table(table: *mut i32, n: usize) -> u32 {
+    reference::start_table(from_raw_parts_mut(table, n))
+}
+
+/// # Safety
+/// `state` has `n` bytes.
+#[no_mangle]
+pub unsafe extern "C" fn vb_start_link(state: *mut u8, n: usize) -> u32 {
+    reference::start_link(from_raw_parts_mut(state, n))
+}
+
+/// # Safety
+/// `table` has `n` entries.
+#[no_mangle]
+pub unsafe extern "C" fn vb_put(table: *mut i32, n: usize, item: u32, value: i32) -> u32 {
+    reference::put(from_raw_parts_mut(table, n), item, value)
+}
+
+/// # Safety
+/// Each array has the length behind it, and none overlaps another.
+#[no_mangle]
+pub unsafe extern "C" fn vb_byte(
+    state: *mut u8,
+    state_length: usize,
+    table: *mut i32,
+    table_length: usize,
+    reply: *mut u8,
+    reply_length: usize,
+    address: u8,
+    structure: u8,
+    now: u32,
+    byte: u8,
+) -> u32 {
+    let state = from_raw_parts_mut(state, state_length);
+    let table = from_raw_parts_mut(table, table_length);
+    let reply = from_raw_parts_mut(reply, reply_length);
+    reference::byte(state, table, reply, address, structure, now, byte)
+}
+
+/// # Safety
+/// Each array has the length behind it, and none overlaps another.
+#[no_mangle]
+pub unsafe extern "C" fn vb_rtu(
+    table: *mut i32,
+    table_length: usize,
+    reply: *mut u8,
+    reply_length: usize,
+    address: u8,
+    frame: *const u8,
+    frame_length: usize,
+) -> u32 {
+    let table = from_raw_parts_mut(table, table_length);
+    let reply = from_raw_parts_mut(reply, reply_length);
+    reference::rtu(table, reply, address, from_raw_parts(frame, frame_length))
+}
