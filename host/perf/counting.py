@@ -80,9 +80,8 @@ def by_emulator(program, functions):
 
 
 def count(program, functions):
-    """The instructions inside the functions in one run of a program, and what came back to it."""
-    number, printed = (by_callgrind if kit.NATIVE else by_emulator)(program, functions)
-    return number, re.findall(r"^gave (.*)$", printed, re.MULTILINE)
+    """The instructions inside the functions in one run of a program, and what it printed."""
+    return (by_callgrind if kit.NATIVE else by_emulator)(program, functions)
 
 
 METHOD = "callgrind" if kit.NATIVE else "the emulator's log of executed instructions"

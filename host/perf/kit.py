@@ -27,7 +27,7 @@ def libmodbus():
 
 
 def rustc():
-    """A Rust compiler that can make x86-64 code here, or None. Debian's may stand behind another."""
+    """A Rust compiler that can make x86-64 code, or None. Debian's may stand behind another."""
     for candidate in (os.environ.get("RUSTC"), "rustc", "/usr/bin/rustc"):
         if candidate and shutil.which(candidate):
             words = [candidate, "--print", "target-libdir", "--target", TRIPLE]
@@ -44,7 +44,7 @@ def missing():
         (shutil.which("rt"), "rt: the proof kit"),
         (shutil.which("cc"), "cc: gcc"),
         (shutil.which("readelf"), "readelf: binutils"),
-        (libmodbus().exists(), f"{libmodbus()}: libmodbus-dev{amd64}"),
+        (libmodbus().exists(), f"{libmodbus()}: libmodbus5{amd64}"),
         (rustc(), f"a Rust compiler for {TRIPLE}: rustc, libstd-rust-dev{amd64}"),
     ]
     if NATIVE:

@@ -1,8 +1,8 @@
 /* Makes the calls of one case through the C functions of the link, for their instructions to be
  * counted: link CASE. Whatever has these functions can be linked to it.
  *
- * It prints where the counted functions stand, and for each call that gave something the number
- * and the reply. */
+ * It prints where the counted functions stand, for each call that gave something the number and the
+ * reply, and how many bytes of the RKC line it handed over. */
 #include "frames.h"
 #include "vennebruis.h"
 
@@ -16,6 +16,7 @@ void ten_rounds_twice(void);
 static int32_t table[VB_TABLE_ENTRIES];
 static uint8_t link_state[VB_STATE_BYTES];
 static uint8_t reply[VB_REPLY_BYTES];
+static unsigned handed_over;
 
 static void show(uint32_t result) {
     if (result == 0)
@@ -31,6 +32,7 @@ static void rtu(const struct request *request) {
 }
 
 static void byte(uint8_t received) {
+    handed_over++;
     show(vb_byte(link_state, sizeof link_state, table, VB_TABLE_ENTRIES, reply, sizeof reply,
                  ADDRESS, VB_TOP_BIT_ZERO, 0, received));
 }
@@ -82,5 +84,6 @@ int main(int argc, char **argv) {
     for (size_t i = 0; i < REQUESTS; i++)
         if (strcmp(name, requests[i].name) == 0)
             rtu(&requests[i]);
+    printf("bytes %u\n", handed_over);
     return 0;
 }

@@ -2,71 +2,80 @@
 
 Prints a table, or says what is missing on this machine (status 2)."""
 
+import re
+
 import building
 import kit
 import sizes
 from counting import METHOD, count
 
+# What ten_rounds_twice executes.
 KNOWN = 47
 
-# The bytes that each request and its reply have a CRC of: 6, and 3 + 2 * 19 or 6 again.
-CRC_BYTES = {"read": 6 + 41, "write": 6 + 6, "loopback": 6 + 6}
-CRC_DIFFERENCE = 256 - 8
+# What the longer damaged request has more than the shorter one.
+MORE_BYTES = 256 - 8
 
-# The bytes that are received in each session on the RKC line: EOT, address, identifier, ENQ and
-# twelve ACK; EOT, address and seven blocks of eight characters with STX, ETX and BCC.
-SESSION_BYTES = {"poll": 1 + 2 + 2 + 1 + 12, "select": 1 + 2 + 7 * (1 + 8 + 1 + 1)}
+# The bytes of a request that its CRC is of.
+REQUEST_BYTES = 6
 
 ROWS = {
     "read": "read of 19 registers (03H)",
-    "read, no CRC": "the same, its CRCs apart",
+    "read, CRC apart": "the same, both CRCs apart",
     "write": "write of one register (06H)",
-    "write, no CRC": "the same, its CRCs apart",
+    "write, CRC apart": "the same, both CRCs apart",
     "loopback": "loopback (08H)",
-    "loopback, no CRC": "the same, its CRCs apart",
+    "loopback, CRC apart": "the same, both CRCs apart",
     "CRC": "CRC, per byte",
     "poll": "RKC: all items polled, per byte",
     "select": "RKC: all settings written, per byte",
-    "session": "RKC: both, per byte",
+    "session": "RKC: one after the other, per byte",
     "code": "code, bytes",
     "constants": "constants, bytes",
 }
 
 
+def replies(printed):
+    """The numbers and replies that came back."""
+    return re.findall(r"^gave (.*)$", printed, re.MULTILINE)
+
+
 def modbus(program, functions, cases):
     """The instructions of Modbus calls, with the CRC and without, and what came back."""
-    figures, replies = {}, {}
-    damaged = [count([*program, f"damaged-{n}"], functions)[0] for n in ("short", "long")]
-    figures["CRC"] = (damaged[1] - damaged[0]) / CRC_DIFFERENCE
+    figures, gave = {}, {}
+    short, long = (count([*program, f"damaged-{n}"], functions)[0] for n in ("short", "long"))
+    figures["CRC"] = (long - short) / MORE_BYTES
     for case in cases:
-        figures[case], replies[case] = count([*program, case], functions)
-        figures[f"{case}, no CRC"] = figures[case] - figures["CRC"] * CRC_BYTES[case]
-    return figures, replies
+        figures[case], printed = count([*program, case], functions)
+        gave[case] = replies(printed)
+        reply_bytes = len(gave[case][0].split()) - 3  # without the number and the CRC itself
+        crc = figures["CRC"] * (REQUEST_BYTES + reply_bytes)
+        figures[f"{case}, CRC apart"] = figures[case] - crc
+    return figures, gave
 
 
 def rkc(program):
     """The instructions per byte on the RKC line, and what came back."""
-    totals, replies = {}, {}
-    for case in SESSION_BYTES:
-        totals[case], replies[case] = count([*program, case], ["vb_byte"])
-    figures = {case: total / SESSION_BYTES[case] for case, total in totals.items()}
-    figures["session"] = sum(totals.values()) / sum(SESSION_BYTES.values())
-    return figures, replies
+    totals, lengths, gave = {}, {}, {}
+    for case in ("poll", "select"):
+        totals[case], printed = count([*program, case], ["vb_byte"])
+        lengths[case] = int(re.search(r"^bytes (\d+)$", printed, re.MULTILINE)[1])
+        gave[case] = replies(printed)
+    figures = {case: totals[case] / lengths[case] for case in totals}
+    figures["session"] = sum(totals.values()) / sum(lengths.values())
+    return figures, gave
 
 
 def link(program, file):
     """All figures of an implementation with the C functions of the link."""
-    figures, replies = modbus(program, ["vb_rtu"], CRC_BYTES)
-    more, more_replies = rkc(program)
-    size = {"code": sizes.code(file), "constants": sizes.constants(file)}
-    return figures | more | size, replies | more_replies
+    figures, gave = modbus(program, ["vb_rtu"], ["read", "write", "loopback"])
+    more, gave_more = rkc(program)
+    return figures | more | sizes.both(file), gave | gave_more
 
 
 def libmodbus(program):
     """Those of libmodbus, which knows neither the loopback nor the RKC line."""
-    figures, replies = modbus(program, ["libmodbus_check", "modbus_reply"], ["read", "write"])
-    size = {"code": sizes.code(kit.libmodbus()), "constants": sizes.constants(kit.libmodbus())}
-    return figures | size, replies
+    figures, gave = modbus(program, ["libmodbus_check", "modbus_reply"], ["read", "write"])
+    return figures | sizes.both(kit.libmodbus()), gave
 
 
 def table(library, others):
@@ -84,6 +93,7 @@ def table(library, others):
 
 
 def main():
+    """Measures all three and prints the table."""
     kit.refuse_what_is_missing()
     kit.TARGET.mkdir(parents=True, exist_ok=True)
     program = building.library()
@@ -91,13 +101,15 @@ def main():
     if known != KNOWN:
         raise SystemExit(f"perf: {known} instructions counted where {KNOWN} are executed")
 
-    library, replies = link(program, building.LIBRARY)
-    reference, same_replies = link(building.reference(), building.REFERENCE)
-    other, some_replies = libmodbus(building.libmodbus())
-    if not replies == same_replies == replies | some_replies:
+    library, gave = link(program, building.LIBRARY)
+    reference, gave_same = link(building.reference(), building.REFERENCE)
+    other, gave_some = libmodbus(building.libmodbus())
+    if not gave == gave_same == gave | gave_some:
         raise SystemExit("perf: the implementations do not give the same replies")
-    print(f"Counted by {METHOD}.\n")
+    print(f"Instructions are counted by {METHOD}.\n")
     print("\n".join(table(library, {"libmodbus": other, "reference": reference})))
+    reply = sizes.function(kit.libmodbus(), "modbus_reply")
+    print(f"\nOf libmodbus's code, which is all of it, modbus_reply alone has {reply} bytes.")
 
 
 main()

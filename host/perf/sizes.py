@@ -1,25 +1,24 @@
-"""Bytes of code, as the sections and symbols of x86-64 objects give them."""
+"""Bytes of code and constants, as the sections and symbols of x86-64 objects give them."""
 
 import re
 
 from counting import run
 
 
-def code(file):
-    """The bytes of all sections of code: of an object, of each in an archive, of a shared library."""
-    sections = run(["readelf", "--wide", "--sections", file])
-    sizes = re.findall(r"\] \.text\S* +PROGBITS +\S+ +\S+ +(\S+)", sections)
+def sections(file, name):
+    """The bytes of the sections with a name, and of those whose names go on from it: in an object,
+    in all objects of an archive, or in a shared library."""
+    listed = run(["readelf", "--wide", "--sections", file])
+    sizes = re.findall(rf"\] \.{name}\S* +PROGBITS +\S+ +\S+ +(\S+)", listed)
     return sum(int(size, 16) for size in sizes)
 
 
-def constants(file):
-    """The bytes of all sections of constants that code reads."""
-    sections = run(["readelf", "--wide", "--sections", file])
-    sizes = re.findall(r"\] \.rodata\S* +PROGBITS +\S+ +\S+ +(\S+)", sections)
-    return sum(int(size, 16) for size in sizes)
+def both(file):
+    """The bytes of code, and of the constants that it reads."""
+    return {"code": sections(file, "text"), "constants": sections(file, "rodata")}
 
 
 def function(file, name):
     """The bytes of one function that a shared library exports."""
-    symbols = run(["readelf", "--wide", "--dyn-syms", file])
-    return int(re.search(rf": \S+ +(\d+) FUNC .* {name}$", symbols, re.MULTILINE)[1])
+    listed = run(["readelf", "--wide", "--dyn-syms", file])
+    return int(re.search(rf": \S+ +(\d+) FUNC .* {name}$", listed, re.MULTILINE)[1])
