@@ -47,7 +47,7 @@ static void find(const char *name, void *pointer) {
 
 static int (*check_integrity)(void *context, uint8_t *frame, int n);
 
-/* The check has no name in the library. This name adds one instruction, a jump. */
+/* The check has no name in the library. This name adds two instructions, a load and a jump. */
 int libmodbus_check(void *context, uint8_t *frame, int n);
 __attribute__((noinline)) int libmodbus_check(void *context, uint8_t *frame, int n) {
     return check_integrity(context, frame, n);
