@@ -34,3 +34,4 @@ example: $(library)
 	diff host/example/stdout target/host/example.stdout
 
 include host/sim.mk
+include host/perf.mk

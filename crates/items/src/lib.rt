@@ -180,8 +180,8 @@ pub fn start(table: &mut [i32]) -> u8
     }
     let mut i = 0;
     while i < ITEMS {
-        let value = START[i];
-        table[i] = value;
+        let first = START[i];
+        table[i] = first;
         i += 1;
     }
     0

@@ -31,17 +31,17 @@ returns c = record { given = simp (ne-eqb _ _ (c .if1 .taken)); left = simp (ne-
 loop-holds : tie.Need-loop-holds Inv-loop μ-loop
 loop-holds c = (omega arith, refl, refl)
 
-mul-value : tie.Need-mul-value Inv-loop μ-loop
-mul-value c = search needs
+mul-first : tie.Need-mul-first Inv-loop μ-loop
+mul-first c = search needs
 
-array-copy-out-value : tie.Need-array-copy-out-value Inv-loop μ-loop
-array-copy-out-value c = search needs
+array-copy-out-first : tie.Need-array-copy-out-first Inv-loop μ-loop
+array-copy-out-first c = search needs
 
-mul-value-2 : tie.Need-mul-value-2 Inv-loop μ-loop
-mul-value-2 c = search needs
+mul-first-2 : tie.Need-mul-first-2 Inv-loop μ-loop
+mul-first-2 c = search needs
 
-slice-set-from-value : tie.Need-slice-set-from-value Inv-loop μ-loop
-slice-set-from-value c = omega (arith, c .before .before .loop .inv .1)
+slice-set-from-first : tie.Need-slice-set-from-first Inv-loop μ-loop
+slice-set-from-first c = omega (arith, c .before .before .loop .inv .1)
 
 add-i : tie.Need-add-i Inv-loop μ-loop
 add-i c = search needs
@@ -80,10 +80,10 @@ start-spec =
     μ-loop
     returns
     loop-holds
-    mul-value
-    array-copy-out-value
-    mul-value-2
-    slice-set-from-value
+    mul-first
+    array-copy-out-first
+    mul-first-2
+    slice-set-from-first
     add-i
     loop-less
     loop-again
