@@ -1,6 +1,6 @@
 # `make test` is the gate: every proof, every must-fail edit, every program and every test around the library. Its last
 # line is `N passed, M failed`.
-.PHONY: test run reference compare example
+.PHONY: test run reference examples compare example
 
 test:
 	@host/gate
@@ -20,6 +20,10 @@ $(library): crates.txt $(shell find crates -type f)
 cargo_words = --quiet --release --locked --target-dir target/cargo --manifest-path
 reference:
 	cargo test $(cargo_words) host/reference/Cargo.toml
+
+# The worked examples of the documents as the reference prints them, line by line beside those of the program `vectors`.
+examples:
+	cargo run $(cargo_words) host/reference/Cargo.toml | diff crates/vectors/stdout -
 
 # Library against reference on millions of calls; `make compare SEED=N` makes those of an earlier run again.
 compare: $(library)

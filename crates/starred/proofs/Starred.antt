@@ -1,0 +1,23 @@
+-- Every line of the table of starred examples holds: the definitions, opened to the last, compute to what document 01 says.
+-- Assumes nothing.
+use mathlib.Core.Path.{_≡_, refl}
+use mathlib.Core.List.{map}
+use lib.Count.{ones}
+use Rattle.items.specs.ItemList.{found}
+use Rattle.items.specs.Table.{inRange, tableFault, startValues, stored}
+use Rattle.line.specs.Line.{keeps, heard, sent, bccFrom}
+use Rattle.text.specs.Reading.{reading}
+use Rattle.text.specs.Writing.{fits, text, written}
+use Rattle.phases.specs.Decision.{decided}
+use Rattle.block.specs.Block.{verdict}
+use Rattle.rkc.specs.State.{used, inLimits, withMore, withEnd}
+use Rattle.rkc.specs.Outcome.{performed, callFault, byteFault, received}
+use Rattle.crc.specs.Crc.{shift, shifts, crcFrom, crc16Of, framed, isRight}
+use Rattle.modbus.specs.Rules.{must, loopbackFault, loopingBack, obeying, acted}
+use Rattle.modbus.specs.Outcome.{unlessFault}
+use Rattle.rtu.specs.Frame as rtu
+use Rattle.starred.specs.Starred.{Example, table, start, after, blockBytes, placeFound, placeOf, unlessNumber, ofBlock, ofWritten, ofFrame, made}
+
+pub starred : map (λ (e : Example). made (e .deed)) table ≡ map (λ (e : Example). e .result) table
+unfolding ones found inRange tableFault startValues stored keeps heard sent bccFrom reading fits text written decided verdict used inLimits withMore withEnd performed callFault byteFault received shift shifts crcFrom crc16Of framed isRight must loopbackFault loopingBack obeying acted unlessFault rtu.orElse rtu.callFault rtu.frameFault rtu.refusal rtu.unlessRefused rtu.actedOn start after blockBytes placeFound placeOf unlessNumber ofBlock ofWritten ofFrame made
+starred = refl
