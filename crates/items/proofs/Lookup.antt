@@ -1,9 +1,9 @@
 -- Looking a register up: the constant table of 19 agrees with a search of the list, by one test over all of it.
 -- Assumes nothing.
-use mathlib.Core.Path.{_≡_, refl, sym, ap, _∙_}
-use mathlib.Core.Bool.{Bool, true, false, cond, _&&_}
+use mathlib.Core.Path.{_≡_, refl, sym, ap}
+use mathlib.Core.Bool.{Bool, true, _&&_}
 use mathlib.Core.List.{List, [], _∷_}
-use Prim.Native.Nat.{ℕ, zero, suc, _-_, _<_, _≤_}
+use Prim.Native.Nat.{ℕ, suc, _-_, _<_, _≤_}
 use native.Mathlib.Omega.{arith}
 use borrow.Author.Tests.{eqb-true, ltb-true, ne-eqb}
 use lib.Dec.{eqb, ltb}
@@ -12,7 +12,7 @@ use Rattle.items.specs.ItemList.{Item}
 use Rattle.items.specs.declared.Found.{Found}
 use Rattle.items.specs.declared.Found.the-variants.{At, Nothing}
 use Rattle.items.specs.ItemList.{itemList, firstFrom, registered, foundByRegister}
-use Rattle.items.proofs.Lists.{both, passes, passes-at}
+use Rattle.items.proofs.Lists.{both, passes-at}
 
 -- the code's constant: the item's number at each register of the map, 0 where none has it
 unfoldable pub numberAt : List ℕ

@@ -1,6 +1,6 @@
 -- From what a step of the link promises to what its call promises: its result can be held, and once held it is the call's.
 -- Assumes nothing.
-use mathlib.Core.Path.{_≡_, ap, subst, _∙_}
+use mathlib.Core.Path.{_≡_, subst, _∙_}
 use mathlib.Core.Bool.{false}
 use mathlib.Core.List.{List}
 use Prim.Native.Nat.{ℕ, _≤_}
@@ -8,7 +8,7 @@ use lib.IntN.{ℤ}
 use lib.ListN.{length}
 use Rattle.rkc.specs.declared.Link.{Link}
 use Rattle.rkc.specs.declared.Stepped.{Stepped}
-use Rattle.rkc.specs.Outcome.{Step, Outcome, received, idled}
+use Rattle.rkc.specs.Outcome.{Step, received, idled}
 use Rattle.rkc.specs.Promise.{Steps, Leads}
 use Rattle.panel.specs.State.{stateBytes, unpacked}
 use Rattle.panel.specs.Calls.{isCallFault}

@@ -1,6 +1,6 @@
 -- The link state as firmware holds it, in 24 bytes: 0 phase, 1 item, 2 count, 3 BCC, 4 mark, 8 to 11 time with the low byte
 -- first, 12 to 19 kept characters. The other bytes are ignored going in and 0 coming out.
-use mathlib.Core.Bool.{Bool, false, cond, not}
+use mathlib.Core.Bool.{Bool, cond, not}
 use mathlib.Core.List.{List, [], _∷_, _++_}
 use mathlib.Core.Logic.{_⊎_}
 use Prim.Native.Nat.{ℕ, zero, suc, _+_, _*_, _/_, _%_, _<_}

@@ -1,14 +1,13 @@
 -- What the definitions of the steps give in each case, for the proofs of the functions that take that way.
 -- Assumes nothing.
 use mathlib.Core.Path.{_≡_, refl, sym, ap, subst⁻¹, _∙_}
-use mathlib.Core.Bool.{Bool, true, false, cond, _&&_}
+use mathlib.Core.Bool.{Bool, true, false, cond}
 use mathlib.Core.List.{List, [], _∷_, map}
-use Prim.Native.Nat.{ℕ, _+_, _-_, _<_, _≤_}
+use Prim.Native.Nat.{ℕ, _+_, _<_, _≤_}
 use native.Mathlib.Omega.{arith}
 use borrow.Author.Tests.{eq-eqb, ne-eqb, eqb-true, eqb-false, leb-true, le-leb, lt-leb}
 use lib.Dec.{eqb, leb}
 use lib.IntN.{ℤ}
-use lib.ListN.{length}
 use Rattle.items.specs.ItemList.{itemAt}
 use Rattle.items.specs.Table.{none, tableFault, answered}
 use Rattle.line.specs.Line.{sent, heard}

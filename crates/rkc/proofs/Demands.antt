@@ -1,14 +1,13 @@
 -- Demand 1 for the RKC line, and that a link runs for ever and answers in the line's structure: theorems about `received` and
 -- `idled` for whatever is handed in. The claims stand in specs/Demands.antt.
 -- Assumes nothing.
-use mathlib.Core.Path.{_≡_, refl, sym, ap, _∙_}
+use mathlib.Core.Path.{_≡_, refl, sym, _∙_}
 use mathlib.Core.Bool.{Bool, true, false, cond, _&&_}
 use mathlib.Core.List.{List, [], _∷_, map}
 use Prim.Native.Nat.{ℕ, _+_, _-_, _≤_}
-use native.Mathlib.Omega.{arith}
-use borrow.Author.Tests.{eq-eqb, ne-eqb, eqb-true, eqb-false}
+use borrow.Author.Tests.{eq-eqb, eqb-true, eqb-false}
 use lib.Dec.{eqb, leb}
-use lib.IntN.{ℤ, pos}
+use lib.IntN.{ℤ}
 use lib.Signed.{leZ}
 use Rattle.items.specs.ItemList.{itemAt, found}
 use Rattle.items.specs.declared.Found.{Found}
@@ -16,7 +15,7 @@ use Rattle.items.specs.declared.Found.the-variants.{At, Nothing}
 use Rattle.items.specs.Table as table
 use Rattle.items.specs.Table.{none, tableFault, goodTable, entry}
 use Rattle.items.proofs.Laws.{good-stored, stored-read-only, answered-AA, answered-AB}
-use Rattle.line.specs.Line.{sent, heard, keeps}
+use Rattle.line.specs.Line.{sent, heard}
 use Rattle.line.proofs.Parity.{sent-keeps}
 use Rattle.text.specs.Writing.{fits, text, accepted, written}
 use Rattle.phases.specs.Phases.{waiting}
@@ -32,7 +31,7 @@ use Rattle.rkc.specs.Outcome.{Step, Outcome, quit, noRoom, dataReply, it
 use Rattle.rkc.specs.Outcome.{silent, leastBuffer, goodSettings, byteFault, elapsed, patience, timedOut, idleFault, idled}
 use Rattle.rkc.specs.Demands.{allKeep, OfByte, OfIdle, stateText, OfAlarms}
 use Rattle.rkc.proofs.Cases.{call-state, call-none, byte-call, byte-none, received-fault, received-fine, idled-fault, idled-fine}
-use Rattle.rkc.proofs.Limits.{Small, used-small, asked-limited, performed-limits, used-in-limits}
+use Rattle.rkc.proofs.Limits.{used-small, asked-limited, performed-limits, used-in-limits}
 
 -- ---- what an act leaves of the table
 

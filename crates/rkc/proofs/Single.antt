@@ -10,7 +10,7 @@ use Rattle.phases.specs.Phases.{rest}
 use Rattle.rkc.specs.declared.Link.{Link}
 use Rattle.rkc.specs.declared.Stepped.{Stepped}
 use Rattle.rkc.specs.State.{inPhase}
-use Rattle.rkc.specs.Outcome.{Step, Outcome, received, idled}
+use Rattle.rkc.specs.Outcome.{Step, received, idled}
 use Rattle.rkc.specs.Promise.{Steps, Leads}
 
 steps-single : {s : Step} {b : List ℕ} {q r : Stepped} {u w : List ℕ} → Steps s q b u → Steps s r b w → (q ≡ r) × (u ≡ w)

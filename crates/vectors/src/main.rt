@@ -5,7 +5,7 @@ mod rkc_line;
 mod show;
 
 use modbus_rtu::ask;
-use modbus_rtu::ask_after;
+use modbus_rtu::ask_with_m1;
 use modbus_rtu::crc;
 use modbus_rtu::pdu;
 use modbus_rtu::register;
@@ -15,12 +15,13 @@ use rkc_line::PB;
 use rkc_line::PR;
 use rkc_line::bcc;
 use rkc_line::bench;
-use rkc_line::poll;
+use rkc_line::poll_m1;
 use rkc_line::read;
 use rkc_line::sent;
 use rkc_line::write;
 
-// Document 01, both sides of each edge.
+// Document 01, both sides of each edge: number text to PB, then to F1 and PR; number text written; characters, registers and frames,
+// with the two BCC in the example of the bench.
 fn edges_of_reading() {
     read(PB, b"-.5");
     read(PB, b"-5");
@@ -33,6 +34,9 @@ fn edges_of_reading() {
     read(PB, b"-.");
     read(PB, b"");
     read(PB, b"-01.500");
+}
+
+fn edges_of_other_ranges() {
     read(F1, b"-.9");
     read(F1, b"100.9");
     read(F1, b"101");
@@ -47,12 +51,12 @@ fn edges_of_writing() {
     write(1, -10000);
     write(1, 99999);
     write(1, 100000);
+}
+
+fn edges_on_the_lines() {
     sent(1, 0x43);
     sent(2, 0x43);
     register(-150);
-}
-
-fn frames_of_document_01() {
     crc(b"\x01\x08\x00\x00\x1F\x34");
     rtu(1, b"\x01\x08\x00\x00\x1F\x34\xE9\xEC");
     crc(b"\x02\x03\x00\xE0\x00\x04");
@@ -102,9 +106,9 @@ fn documents_002_and_003() {
 // Document 004: polling, 3.1.1, and Modbus, 4.6 and 5.3.
 fn document_004() {
     bcc(b"M10100.0\x03");
-    poll(1000);
+    poll_m1(1000);
     crc(b"\x02\x03\x08\x00\x19\x00\x00\x00\x00\x00\x00");
-    ask_after(25, 2, b"\x03\x00\x00\x00\x04");
+    ask_with_m1(2, 25, b"\x03\x00\x00\x00\x04");
     ask(2, b"\x03\x00\x00\x00\x7E");
     rtu(1, b"\x01\x06\x00\xF4\x00\x32\x49\xED");
     crc(b"\x01\x10\x00\xF4\x00\x02\x04\x00\x32\x00\x32");
@@ -132,8 +136,9 @@ fn modbus_documents() {
 
 fn main() {
     edges_of_reading();
+    edges_of_other_ranges();
     edges_of_writing();
-    frames_of_document_01();
+    edges_on_the_lines();
     rkc_line_of_document_000();
     modbus_of_document_000();
     documents_002_and_003();

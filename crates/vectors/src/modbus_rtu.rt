@@ -1,10 +1,15 @@
-// The examples of registers, CRC and Modbus RTU. Each function writes the line of one example.
+// The examples of registers, CRC and Modbus RTU. Each public function writes the line of one example.
 ghost use Prim.Native.Nat.{_<_};
 use crate::show;
 use modbus::Answered;
 
+// The numbers of the items that the firmware puts: the measured value, and the set value, whose range has every value of the examples.
+const M1: u32 = 1;
+
+const S1: u32 = 6;
+
 // A byte goes to a place of the frame, if it has that place.
-fn place(frame: &mut [u8], at: usize, byte: u8) {
+fn put_byte(frame: &mut [u8], at: usize, byte: u8) {
     if at < frame.len() {
         frame[at] = byte;
     }
@@ -15,7 +20,7 @@ fn copy(bytes: &[u8], frame: &mut [u8], from: usize)
     requires { ⌜ from < 256 ⌝ }
 {
     for i in 0..bytes.len() {
-        place(frame, from + i, bytes[i]);
+        put_byte(frame, from + i, bytes[i]);
     }
 }
 
@@ -87,7 +92,7 @@ pub fn ask(address: u8, request: &[u8]) {
 }
 
 // The same after the firmware has put a value to M1.
-pub fn ask_after(value: i32, address: u8, request: &[u8]) {
+pub fn ask_with_m1(address: u8, value: i32, request: &[u8]) {
     show::text(b"ask");
     show::byte(address);
     show::text(b", M1");
@@ -97,7 +102,7 @@ pub fn ask_after(value: i32, address: u8, request: &[u8]) {
     show::bytes(request);
     let mut table = [0i32; 12];
     items::start(&mut table);
-    items::put(&mut table, 1, value);
+    items::put(&mut table, M1, value);
     show_exchange(&mut table, address, request, false);
 }
 
@@ -109,7 +114,7 @@ pub fn pdu(request: &[u8]) {
     show_exchange(&mut table, 1, request, true);
 }
 
-// The register of S1, whose range has every value of the examples.
+// The firmware puts a value to S1, and a host reads its register, 000BH.
 pub fn register(value: i32) {
     show::text(b"register");
     show::value(value);
@@ -117,7 +122,7 @@ pub fn register(value: i32) {
     let mut table = [0i32; 12];
     let mut reply = [0u8; 256];
     items::start(&mut table);
-    items::put(&mut table, 6, value);
+    items::put(&mut table, S1, value);
     exchange(&mut table, &mut reply, 1, b"\x03\x00\x0B\x00\x01");
     show::register(reply[3], reply[4]);
     show::end_of_line();

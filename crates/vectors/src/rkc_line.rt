@@ -1,5 +1,6 @@
 // The examples of number text and of the RKC line. Each public function writes the line of one example.
 use crate::show;
+use line::ENQ;
 use line::EOT;
 use line::ETX;
 use line::STX;
@@ -12,6 +13,9 @@ pub const PB: usize = 8;
 pub const PR: usize = 9;
 
 pub const F1: usize = 10;
+
+// The number of the measured value, for the firmware.
+const M1: u32 = 1;
 
 // The bytes come one after another, at address 1, in structure 0, at time 0. Replies are shown as they come, or not at all.
 fn hear(link: Link, table: &mut [i32], bytes: &[u8], shown: bool) -> Stepped {
@@ -101,14 +105,15 @@ pub fn bcc(chars: &[u8]) {
 }
 
 // M1 is polled after the firmware has put a value.
-pub fn poll(value: i32) {
+pub fn poll_m1(value: i32) {
     show::text(b"poll M1");
     show::value(value);
     show::arrow();
     let mut table = [0i32; 12];
     items::start(&mut table);
-    items::put(&mut table, 1, value);
-    hear(Link::start(), &mut table, b"\x0401M1\x05", true);
+    items::put(&mut table, M1, value);
+    let poll = [EOT, b'0', b'1', b'M', b'1', ENQ];
+    hear(Link::start(), &mut table, &poll, true);
     show::end_of_line();
 }
 

@@ -1,5 +1,5 @@
 -- `bench::hear_all` is safe and ends: the table keeps its length, and the measure is what is left of the bytes. Assumes nothing.
-use Prim.Native.Nat.{_-_, _≤_}
+use Prim.Native.Nat.{_-_}
 use mathlib.Core.Path.{_≡_}
 use borrow.Author.Needs.{needs}
 use lib.ListN.{length}

@@ -1,7 +1,6 @@
 -- `items::alarm_state` meets its contract: the machine's comparison is that of the two entries. Assumes nothing.
 use borrow.Author.Needs.{needs}
 use mathlib.Core.Path.{_≡_, sym, _∙_, ap₂}
-use mathlib.Core.Bool.{Bool}
 use lib.Signed.{leZ}
 use mir.Syntax.{w32}
 use mir.Val.{toZ, ofZ}

@@ -2,15 +2,15 @@
 use borrow.Author.Needs.{needs}
 use borrow.Author.Tests.{eq-eqb, ne-eqb}
 use mathlib.Core.Path.{_≡_, refl, sym, ap, _∙_}
-use mathlib.Core.Bool.{Bool, true, false, _&&_}
+use mathlib.Core.Bool.{Bool, true, _&&_}
 use Prim.Native.Nat.{_+_, _-_, _≤_}
 use native.Mathlib.Omega.{arith}
 use lib.IntN.{pos}
-use lib.ListN.{getD, length, drop, drop-of-length-le}
+use lib.ListN.{getD, drop, drop-of-length-le}
 use mir.Syntax.{w32}
 use mir.Val.{toZ, ofZ}
-use Rattle.items.specs.ItemList.{items, itemList, noItem}
-use Rattle.items.specs.Table.{inRange, allInRange, entry, tableFault}
+use Rattle.items.specs.ItemList.{items, itemList}
+use Rattle.items.specs.Table.{inRange, allInRange, tableFault}
 use Rattle.items.proofs.Lists.{check-turn}
 use Rattle.items.proofs.check.Statement.{statement}
 use Rattle.items.proofs.check.Tie as tie

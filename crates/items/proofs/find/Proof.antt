@@ -1,13 +1,12 @@
 -- `items::find` meets its contract. The loop's invariant: the lines that are left give the search's answer. Assumes nothing.
 use borrow.Author.Needs.{needs}
 use mathlib.Core.Path.{_≡_, refl, sym, ap, _∙_}
-use mathlib.Core.Bool.{Bool, true, false, cond}
+use mathlib.Core.Bool.{Bool, cond}
 use Prim.Native.Nat.{_+_, _-_, _≤_}
 use native.Mathlib.Omega.{arith}
-use lib.ListN.{getD, drop, drop-of-length-le}
-use Rattle.items.specs.declared.Found.{Found}
-use Rattle.items.specs.declared.Found.the-variants.{At, Nothing}
-use Rattle.items.specs.ItemList.{items, itemList, noItem, named, firstFrom, found}
+use lib.ListN.{drop, drop-of-length-le}
+use Rattle.items.specs.declared.Found.the-variants.{At}
+use Rattle.items.specs.ItemList.{items, itemList, named, firstFrom, found}
 use Rattle.items.proofs.Lists.{search-turn}
 use Rattle.items.proofs.find.Statement.{statement}
 use Rattle.items.proofs.find.Tie as tie

@@ -1,6 +1,6 @@
 -- `items::put` meets its contract: each way out is one of the cases of `putNumber`. Assumes nothing.
 use borrow.Author.Needs.{needs}
-use mathlib.Core.Path.{_≡_, sym, ap, _∙_}
+use mathlib.Core.Path.{_≡_, ap, _∙_}
 use mathlib.Core.Bool.{Bool, cond}
 use native.Mathlib.Omega.{arith}
 use Prim.Native.Nat.{_-_}

@@ -1,12 +1,12 @@
 -- `panel::vb_rtu` meets its contract: it is that of `rtu::frame`, with number and length in one. Assumes nothing.
 use borrow.Author.Needs.{needs}
-use mathlib.Core.Path.{_≡_, ap₂, _∙_}
+use mathlib.Core.Path.{ap₂, _∙_}
 use mathlib.Core.List.{List, [], _∷_}
-use Prim.Native.Nat.{ℕ, _+_, _≤_}
+use Prim.Native.Nat.{ℕ, _≤_}
 use native.Mathlib.Omega.{arith}
 use lib.IntN.{ℤ}
 use lib.ListN.{length}
-use Rattle.crc.specs.Crc.{bodyOf, framed}
+use Rattle.crc.specs.Crc.{bodyOf}
 use Rattle.crc.proofs.Framed.{length-framed}
 use Rattle.modbus.specs.Outcome.{Outcome}
 use Rattle.modbus.specs.Rules.{acted}

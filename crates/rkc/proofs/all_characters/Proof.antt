@@ -2,9 +2,8 @@
 use borrow.Author.Needs.{needs}
 use borrow.Author.Tests.{lt-ltb, le-ltb}
 use mathlib.Core.Path.{_≡_, refl, sym, ap, _∙_}
-use mathlib.Core.Bool.{Bool, _&&_}
+use mathlib.Core.Bool.{_&&_}
 use Prim.Native.Nat.{_+_, _-_, _≤_}
-use native.Mathlib.Omega.{arith}
 use lib.ListN.{getD, length, drop, drop-of-length-le}
 use Rattle.rkc.specs.State.{isCharacter, allCharacters}
 use Rattle.rkc.proofs.Lists.{characters-turn}

@@ -1,6 +1,6 @@
 -- `rkc::kept_up_to` meets its contract: its eight elements are those of `upTo`. Assumes nothing.
 use borrow.Author.Needs.{needs}
-use mathlib.Core.Path.{_≡_, sym, ap, _∙_}
+use mathlib.Core.Path.{_≡_, sym, _∙_}
 use lib.ListN.{length}
 use Rattle.rkc.specs.State.{upTo}
 use Rattle.rkc.proofs.Lists.{up-to-length, up-to-at, elements}

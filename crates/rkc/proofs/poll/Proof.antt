@@ -1,7 +1,6 @@
 -- `rkc::poll` meets its contract: what was found is sent, or EOT. Assumes nothing.
 use borrow.Author.Needs.{needs}
 use mathlib.Core.Path.{sym, ap, _∙_}
-use native.Mathlib.Omega.{arith}
 use Rattle.items.proofs.Laws.{found-place}
 use Rattle.rkc.specs.Outcome.{polled}
 use Rattle.rkc.proofs.Cases.{steps-by}

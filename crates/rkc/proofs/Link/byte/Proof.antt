@@ -1,8 +1,6 @@
 -- `Link::byte` meets its contract: a fault hands everything back, else what was asked for is performed. Assumes nothing.
 use borrow.Author.Needs.{needs}
 use mathlib.Core.Path.{refl, sym, _∙_}
-use mathlib.Core.Bool.{Bool}
-use lib.ListN.{length}
 use Rattle.rkc.proofs.Cases.{leads-by, byte-none, call-none, received-fault, received-fine}
 use Rattle.rkc.proofs.Limits.{asked-limited}
 use Rattle.rkc.proofs.Link.byte.Statement.{statement}

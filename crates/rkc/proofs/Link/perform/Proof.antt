@@ -1,6 +1,6 @@
 -- `Link::perform` meets its contract: each act by its own case of `performed`. Assumes nothing.
 use borrow.Author.Needs.{needs}
-use mathlib.Core.Path.{_≡_, refl, _∙_}
+use mathlib.Core.Path.{refl, _∙_}
 use native.Mathlib.Omega.{arith}
 use Rattle.rkc.specs.Outcome.{performed}
 use Rattle.rkc.proofs.Cases.{leads-by, done-by}

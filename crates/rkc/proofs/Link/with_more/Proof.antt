@@ -1,6 +1,6 @@
 -- `Link::with_more` meets its contract. Assumes nothing.
 use borrow.Author.Needs.{needs}
-use mathlib.Core.Path.{_≡_, _∙_}
+use mathlib.Core.Path.{_∙_}
 use Rattle.rkc.specs.State.{withMore}
 use Rattle.rkc.proofs.Link.with_more.Statement.{statement}
 use Rattle.rkc.proofs.Link.with_more.Tie as tie
