@@ -4,7 +4,7 @@
 use mathlib.Core.Path.{_≡_, refl, sym, ap, _∙_}
 use mathlib.Core.Bool.{Bool, true, false, cond, _&&_}
 use mathlib.Core.List.{List, [], _∷_, _++_, map, append-nil}
-use Prim.Native.Nat.{ℕ, zero, suc, _+_, _<_, _≤_}
+use Prim.Native.Nat.{ℕ, zero, suc, _+_, _^_, _<_, _≤_}
 use native.Mathlib.Nat.{not-suc-le-zero, le-of-suc-le-suc}
 use native.Mathlib.Numerals.{add-one}
 use native.Mathlib.Omega.{arith}
@@ -13,10 +13,13 @@ use lib.Dec.{eqb}
 use lib.IntN.{ℤ, pos}
 use lib.ListN.{length, getD, set, drop, drop-of-length-le, List·getD-eq-default, List·getD-map}
 use lib.Seq.{drop-cons, sets, sets-eq}
-use Rattle.sign.proofs.Laws.{contrary}
+use lib.Signed.{leZ, mag}
+use mir.Syntax.{w32}
+use mir.Val.{toZ, ofZ}
+use Rattle.sign.proofs.Laws.{contrary, same}
 use Rattle.items.specs.declared.Found.the-variants.{At}
 use Rattle.items.specs.ItemList.{Item, items, itemList, noItem, itemAt, firstFrom}
-use Rattle.items.specs.Table.{fromLowToHigh, allInRange, entry}
+use Rattle.items.specs.Table.{allInRange, entry}
 
 -- both tests held
 pub both : (a b : Bool) → (a && b) ≡ true → (a ≡ true) × (b ≡ true)
@@ -36,6 +39,11 @@ column f i d h = read-inside (map f itemList) i d (f noItem) h ∙ List·getD-ma
 pub line-past : (i : ℕ) → items ≤ i → itemAt i ≡ noItem
 line-past i h = List·getD-eq-default itemList noItem h
 
+-- a limit of an item, as the machine reads it off its column
+pub limit : (f : Item → ℤ) (i : ℕ) → i < items → mag (getD (map f itemList) i (pos 0)) < 2 ^ 31
+    → toZ w32 (ofZ w32 (getD (map f itemList) i (pos 0))) ≡ f (itemAt i)
+limit f i h fits = same _ fits ∙ column f i (pos 0) h
+
 -- a test passes at each number below n
 abbrev pub passes : (ℕ → Bool) → ℕ → Bool
 passes p zero = true
@@ -49,14 +57,17 @@ passes-at p (suc n) k e h = by (λ l. passes-at p n k (both (p n) (passes p n) e
     by before true t = ap p (eqb-true k n t) ∙ both (p n) (passes p n) e .0
     by before false t = let other : k ≡ n → ⊥ = eqb-false k n t in before (omega arith)
 
--- a search, and a table's check, by the lines that are left
+-- a search, by the lines that are left
 pub search-turn : (p : Item → Bool) (l : List Item) (i : ℕ) → i < length l
     → firstFrom i p (drop i l) ≡ cond (p (getD l i noItem)) (At i) (firstFrom (i + 1) p (drop (i + 1) l))
 search-turn p l i h = rw (add-one, drop-cons l i noItem)
 
-pub check-turn : (l : List Item) (t : List ℤ) (i : ℕ) → i < length l → i < length t
-    → allInRange (drop i l) (drop i t) ≡ (fromLowToHigh (getD l i noItem) (entry t i) && allInRange (drop (i + 1) l) (drop (i + 1) t))
-check-turn l t i h k = rw (add-one, drop-cons l i noItem, drop-cons t i (pos 0))
+-- a table's check, by what held before a place and the lines that are left
+pub check-turn : (inside : Bool) (l : List Item) (t : List ℤ) (i : ℕ) → i < length l → i < length t
+    → (inside && leZ (getD l i noItem .low) (entry t i) && leZ (entry t i) (getD l i noItem .high) && allInRange (drop (i + 1) l) (drop (i + 1) t))
+    ≡ (inside && allInRange (drop i l) (drop i t))
+check-turn true l t i h k = rw (add-one, drop-cons l i noItem, drop-cons t i (pos 0))
+check-turn false l t i h k = refl
 
 -- storing a run of values, by those that are left
 pub store-turn : (t vs : List ℤ) (i : ℕ) → i < length vs → sets t i (drop i vs) ≡ sets (set t i (entry vs i)) (i + 1) (drop (i + 1) vs)

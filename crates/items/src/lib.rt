@@ -3,7 +3,7 @@
 ghost use mathlib.Core.Path.{_≡_};
 ghost use Prim.Native.Nat.{_<_};
 ghost use lib.ListN.{length};
-ghost use Rattle.items.specs.ItemList.{itemAt, identifierOf, named, found, foundByRegister};
+ghost use Rattle.items.specs.ItemList.{itemAt, identifierOf, found, foundByRegister};
 ghost use Rattle.items.specs.Table.{inRange, tableFault, startNumber, startTable, entry, alarm, answered, stored, putNumber, putTable};
 ghost use Rattle.items.specs.Promise.{Lent};
 
@@ -102,20 +102,16 @@ pub fn decimals(i: usize) -> u8
     if i < ITEMS { DECIMALS[i] } else { 0 }
 }
 
-// Whether two characters are the identifier of the item at a place.
-fn is_named(i: usize, a: u8, b: u8) -> bool
-    ensures { λ r. ⌜ r ≡ named a b (itemAt i) ⌝ }
-{
-    if first(i) == a { second(i) == b } else { false }
-}
-
 // The item that two characters name.
 pub fn find(a: u8, b: u8) -> Found
     ensures { λ r. ⌜ r ≡ found a b ⌝ }
 {
+    // A constant array is laid out at each use: here once, and not at each place.
+    let firsts = FIRST;
+    let seconds = SECOND;
     let mut i = 0;
     while i < ITEMS {
-        if is_named(i, a, b) {
+        if firsts[i] == a && seconds[i] == b {
             return Found::At(i);
         }
         i += 1;
@@ -159,16 +155,17 @@ pub fn check(table: &[i32]) -> u8
     if table.len() != ITEMS {
         return WRONG_LENGTH;
     }
+    // Every entry is looked at, with no way out of the loop, so that the compiler compares several at once.
+    let lows = LOW;
+    let highs = HIGH;
+    let mut inside = true;
     let mut i = 0;
     while i < ITEMS {
         let value = table[i];
-        if in_range(i, value) {
-            i += 1;
-        } else {
-            return ENTRY_OUTSIDE;
-        }
+        inside = inside & (lows[i] <= value) & (value <= highs[i]);
+        i += 1;
     }
-    0
+    if inside { 0 } else { ENTRY_OUTSIDE }
 }
 
 // Every item takes its start value.

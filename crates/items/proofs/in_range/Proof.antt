@@ -4,17 +4,14 @@ use borrow.Author.Needs.{needs}
 use borrow.Author.Tests.{lt-leb}
 use mathlib.Core.Path.{_≡_, refl, sym, ap, _∙_}
 use mathlib.Core.Bool.{Bool, true, false, _&&_}
-use mathlib.Core.List.{map}
-use Prim.Native.Nat.{ℕ, zero, suc, _<_}
+use Prim.Native.Nat.{zero, suc}
 use native.Mathlib.Omega.{arith}
 use lib.Dec.{leb}
 use lib.IntN.{ℤ, pos, negsuc}
-use lib.ListN.{getD}
-use mir.Syntax.{w32}
-use mir.Val.{toZ, ofZ}
-use Rattle.items.specs.ItemList.{Item, items, itemList, itemAt, noItem}
+use Rattle.sign.proofs.Laws.{same}
+use Rattle.items.specs.ItemList.{Item, noItem}
 use Rattle.items.specs.Table.{inRange, fromLowToHigh}
-use Rattle.items.proofs.Lists.{column, line-past}
+use Rattle.items.proofs.Lists.{limit, line-past}
 use Rattle.items.proofs.in_range.Statement.{statement}
 use Rattle.items.proofs.in_range.Tie as tie
 
@@ -40,30 +37,24 @@ mul-high c = search needs
 array-copy-out-high : tie.Need-array-copy-out-high
 array-copy-out-high c = search needs
 
--- a limit as the machine reads it
-limit : (f : Item → ℤ) (i : ℕ) → i < items → {v : ℤ} → v ≡ getD (map f itemList) i (pos 0) → v ≡ f (itemAt i)
-limit f i h e = e ∙ column f i (pos 0) h
-
 returns : tie.Need-returns
 unfolding inRange
 returns c =
     let s = c .before .before .before .before in
-    let i = s .args .i in
     let h = c .before .before .before .if1 .taken in
-    let v : toZ w32 (ofZ w32 (s .args .value)) ≡ s .args .value = search needs in
-    let low : toZ w32 (ofZ w32 (getD (map (λ (x : Item). x .low) itemList) i (pos 0))) ≡ getD (map (λ (x : Item). x .low) itemList) i (pos 0) = search needs in
-    let high : toZ w32 (ofZ w32 (getD (map (λ (x : Item). x .high) itemList) i (pos 0))) ≡ getD (map (λ (x : Item). x .high) itemList) i (pos 0) = search needs in
-    simp (v, limit (λ (x : Item). x .high) i h high, simp (v, limit (λ (x : Item). x .low) i h low) at (c .if2 .taken))
+    let v = same (s .args .value) (s .fits .value .sfits) in
+    let low = limit (λ (x : Item). x .low) (s .args .i) h (c .before .before .low .given) in
+    let high = limit (λ (x : Item). x .high) (s .args .i) h (c .before .high .given) in
+    simp (v, high, simp (v, low) at (c .if2 .taken))
 
 returns-2 : tie.Need-returns-2
 unfolding inRange
 returns-2 c =
     let s = c .before .before .before .before in
-    let i = s .args .i in
     let h = c .before .before .before .if1 .taken in
-    let v : toZ w32 (ofZ w32 (s .args .value)) ≡ s .args .value = search needs in
-    let low : toZ w32 (ofZ w32 (getD (map (λ (x : Item). x .low) itemList) i (pos 0))) ≡ getD (map (λ (x : Item). x .low) itemList) i (pos 0) = search needs in
-    simp (simp (v, limit (λ (x : Item). x .low) i h low) at (c .if2 .left))
+    let v = same (s .args .value) (s .fits .value .sfits) in
+    let low = limit (λ (x : Item). x .low) (s .args .i) h (c .before .before .low .given) in
+    simp (simp (v, low) at (c .if2 .left))
 
 returns-3 : tie.Need-returns-3
 unfolding inRange
