@@ -3,13 +3,13 @@
 -- character alone has the wrong parity, the top bit mends it.
 -- Assumes nothing.
 use mathlib.Core.Path.{_≡_, refl, sym, ap, _∙_}
-use mathlib.Core.Bool.{Bool, true, false, cond, not}
+use mathlib.Core.Bool.{Bool, true, false, cond, not, Bool·beq}
 use Prim.Native.Nat.{ℕ, _+_, _<_, _%_}
 use native.Mathlib.Nat.{add-comm}
 use native.Mathlib.Omega.{arith}
-use borrow.Author.Tests.{le-leb, lt-leb, lt-ltb, eq-eqb, eqb-false}
+use borrow.Author.Tests.{le-leb, lt-leb, lt-ltb, ltb-true, ltb-false, eq-eqb, ne-eqb, eqb-true, eqb-false}
 use lib.Count.{ones, ones-cat}
-use lib.Dec.{eqb}
+use lib.Dec.{ltb, eqb}
 use Rattle.sign.proofs.Laws.{contrary}
 use Rattle.line.specs.Line.{topBit, lowSeven, parity, keeps, topUnless, heard, isLineError, sent}
 use Rattle.line.proofs.Laws.{low-seven-small}
@@ -28,6 +28,16 @@ parity-small structure = go (eqb structure 1)
     go : (t : Bool) → cond t 0 1 < 2
     go true = omega arith
     go false = omega arith
+
+-- one test of the number of ones serves both parities: it is even exactly where even is asked for
+pub even-as-asked : (n : ℕ) (even : Bool) → Bool·beq (eqb (n % 2) 0) even ≡ eqb (n % 2) (cond even 0 1)
+even-as-asked n = go (eqb (n % 2) 0) refl
+  where
+    go : (t : Bool) → eqb (n % 2) 0 ≡ t → (even : Bool) → Bool·beq t even ≡ eqb (n % 2) (cond even 0 1)
+    go true e true = sym e
+    go false e true = sym e
+    go true e false = let z = eqb-true (n % 2) 0 e in sym (ne-eqb (n % 2) 1 (omega arith))
+    go false e false = let z = eqb-false (n % 2) 0 e in sym (eq-eqb (n % 2) 1 (omega arith))
 
 -- a character that alone breaks the structure keeps it with the top bit
 mended : (structure c : ℕ) → c < topBit → keeps structure c ≡ false → keeps structure (c + topBit) ≡ true
@@ -74,3 +84,12 @@ heard-error structure byte = go (keeps structure byte)
     go : (t : Bool) → isLineError (topUnless t byte) ≡ not t
     go true = lt-leb topBit (lowSeven byte) (low-seven-small byte)
     go false = le-leb topBit (lowSeven byte + topBit) (omega arith)
+
+-- in structure 0 a byte is heard as it is: the top bit that breaks the structure marks the line error
+pub heard-plain : (byte : ℕ) → byte < 256 → heard 0 byte ≡ byte
+unfolding heard keeps
+heard-plain byte h = go (ltb byte topBit) refl
+  where
+    go : (t : Bool) → ltb byte topBit ≡ t → topUnless t byte ≡ byte
+    go true small = let b = ltb-true byte topBit small in omega arith
+    go false large = let b = ltb-false byte topBit large in omega arith

@@ -25,15 +25,15 @@ pub fn low_seven(c: u8) -> u8
     c % TOP_BIT
 }
 
-// Whether a byte keeps the line structure. A structure over 2 is refused by every caller before; it is read as 2.
+// Whether a byte keeps the line structure. A structure over 2 is refused by every caller before; it is read as 2. One count of
+// ones serves both parities, so that a caller's loop is compiled for two structures and not for three.
 pub fn keeps(structure: u8, byte: u8) -> bool
     ensures { λ r. ⌜ r ≡ keeps structure byte ⌝ }
 {
-    match structure {
-        0 => byte < TOP_BIT,
-        1 => u8::count_ones(byte) % 2 == 0,
-        _ => u8::count_ones(byte) % 2 == 1,
+    if structure == 0 {
+        return byte < TOP_BIT;
     }
+    (u8::count_ones(byte) % 2 == 0) == (structure == 1)
 }
 
 // The low seven bits, with the top bit added unless the structure is kept without it.
@@ -44,10 +44,13 @@ fn top_unless(kept: bool, c: u8) -> u8
     if kept { plain } else { plain + TOP_BIT }
 }
 
-// A byte as it is heard.
+// A byte as it is heard. In structure 0 that is the byte: the top bit breaks the structure, and it marks a line error.
 pub fn heard(structure: u8, byte: u8) -> u8
     ensures { λ r. ⌜ r ≡ heard structure byte ⌝ }
 {
+    if structure == 0 {
+        return byte;
+    }
     top_unless(keeps(structure, byte), byte)
 }
 
