@@ -1,16 +1,17 @@
 -- What a turn of each loop over characters, and each call of the reading, tells of the definitions.
 -- Assumes nothing.
-use mathlib.Core.Path.{_≡_, refl}
+use mathlib.Core.Path.{_≡_, refl, sym, _∙_}
 use mathlib.Core.Bool.{Bool, true, false, cond, _&&_}
 use mathlib.Core.List.{List, [], _∷_, _++_}
 use Prim.Native.Nat.{ℕ, suc, _+_, _-_, _*_, _/_, _^_, _<_, _≤_}
 use native.Mathlib.Nat.{zero-add, pow-le-pow-right, mul-le-mul-left, div-le-self}
 use native.Mathlib.Omega.{arith}
 use borrow.Author.Tests.{eq-eqb, ne-eqb, le-leb}
-use lib.Dec.{leb}
-use lib.ListN.{length, getD, take, drop, length-append, length-drop}
+use lib.Dec.{leb, eqb}
+use lib.ListN.{length, getD, take, drop, length-append, length-drop, drop-of-length-le}
 use lib.Pow.{pow-add}
 use lib.Seq.{drop-cons, take-all}
+use mir.Val.{boolByte}
 use Rattle.sign.specs.Sign.{signed}
 use Rattle.sign.proofs.Laws.{contrary}
 use Rattle.text.specs.Characters.{minusSign, point, zeroDigit, isDigit}
@@ -97,13 +98,41 @@ sized k n d q h few = let p = div-le-self (n * 10 ^ d) q in let m = scaled k n d
 pub rest : (cs : List ℕ) (a : ℕ) → take (length cs - a) (drop a cs) ≡ drop a cs
 rest cs a = take-all (length cs - a) (drop a cs) (rw length-drop (omega arith))
 
+pub point-within : (cs : List ℕ) → pointAt cs ≤ length cs
+point-within [] = omega arith
+point-within (c ∷ cs) = go (eqb c point) (point-within cs)
+  where
+    go : (t : Bool) → pointAt cs ≤ length cs → cond t 0 (suc (pointAt cs)) ≤ suc (length cs)
+    go true h = omega arith
+    go false h = omega arith
+
+-- where there is no point, nothing stands in its place or after it
+pub nothing-after : (cs : List ℕ) → length cs ≤ pointAt cs → drop (pointAt cs) cs ≡ drop (suc (pointAt cs)) cs
+nothing-after cs h = drop-of-length-le cs h ∙ sym (drop-of-length-le cs {i = suc (pointAt cs)} (omega arith))
+
 pub empty : (cs : List ℕ) → length cs ≡ 0 → cs ≡ []
 empty [] e = refl
 empty (c ∷ cs) e = absurd (omega arith)
 
-pub with-minus : (d : ℕ) (cs : List ℕ) → 0 < length cs → getD cs 0 0 ≡ minusSign → ofUnsigned true d (drop 1 cs) ≡ ofText d cs
-with-minus d [] h e = absurd (omega arith)
-with-minus d (c ∷ cs) h e = rw (eq-eqb c minusSign e)
+-- the first character is the minus
+abbrev pub minusFirst : List ℕ → Bool
+minusFirst cs = eqb (getD cs 0 0) minusSign
+
+pub sign-within : (cs : List ℕ) → 0 < length cs → boolByte (minusFirst cs) ≤ length cs
+sign-within cs h = go (minusFirst cs)
+  where
+    go : (minus : Bool) → boolByte minus ≤ length cs
+    go true = omega arith
+    go false = omega arith
+
+-- the number starts after the minus, or with the first character
+pub sign-apart : (d : ℕ) (cs : List ℕ) → 0 < length cs → ofUnsigned (minusFirst cs) d (drop (boolByte (minusFirst cs)) cs) ≡ ofText d cs
+sign-apart d [] h = absurd (omega arith)
+sign-apart d (c ∷ cs) h = go (eqb c minusSign)
+  where
+    go : (minus : Bool) → ofUnsigned minus d (drop (boolByte minus) (c ∷ cs)) ≡ cond minus (ofUnsigned true d cs) (ofUnsigned false d (c ∷ cs))
+    go true = refl
+    go false = refl
 
 pub without-minus : (d : ℕ) (cs : List ℕ) → 0 < length cs → (getD cs 0 0 ≡ minusSign → ⊥) → ofUnsigned false d cs ≡ ofText d cs
 without-minus d [] h e = absurd (omega arith)

@@ -132,17 +132,18 @@ fn of_parts(minus: bool, decimals: usize, whole: &[u8], fraction: &[u8]) -> Read
     Reading::Value(sign::make(minus, size))
 }
 
-// What the characters after the sign say.
+// What the characters after the sign say. Each of this and `read` has one call, so that the reading is compiled once.
 fn of_unsigned(minus: bool, decimals: usize, chars: &[u8]) -> Reading
     requires { ⌜ (decimals ≤ mostDecimals) × (length (now chars) ≤ 6) ⌝ }
     ensures { λ r. ⌜ r ≡ ofUnsigned minus decimals (now (chars .entry)) ⌝ }
 {
     let point = point_at(chars);
-    if point < chars.len() {
-        of_parts(minus, decimals, &chars[..point], &chars[point + 1..])
+    let after = if point < chars.len() {
+        point + 1
     } else {
-        of_parts(minus, decimals, chars, &chars[chars.len()..])
-    }
+        point
+    };
+    of_parts(minus, decimals, &chars[..point], &chars[after..])
 }
 
 // What the characters say of a value with so many decimals.
@@ -158,11 +159,8 @@ pub fn read(decimals: u8, chars: &[u8]) -> Reading
     if chars.len() == 0 {
         return Reading::NoNumber;
     }
-    if chars[0] == b'-' {
-        of_unsigned(true, decimals as usize, &chars[1..])
-    } else {
-        of_unsigned(false, decimals as usize, chars)
-    }
+    let minus = chars[0] == b'-';
+    of_unsigned(minus, decimals as usize, &chars[minus as usize..])
 }
 
 // The characters of a value, or the number of a refusal and no characters.

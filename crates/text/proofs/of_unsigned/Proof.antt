@@ -1,14 +1,15 @@
 -- `text::of_unsigned` meets its contract: the slices on either side of the point are the definition's parts, and where there is
 -- no point the part after it is empty.
 -- Assumes nothing.
-use mathlib.Core.Path.{sym, _∙_}
-use Prim.Native.Nat.{suc, _+_, _≤_}
+use mathlib.Core.Path.{_≡_, sym, _∙_}
+use mathlib.Core.Logic.{⊎-elim}
+use Prim.Native.Nat.{suc, _≤_}
 use native.Mathlib.Numerals.{add-one}
 use native.Mathlib.Omega.{arith}
-use lib.ListN.{length, length-take, length-drop, drop-of-length-le}
-use lib.Seq.{length-take-le, take-all, drop-length}
+use lib.ListN.{length, drop, length-take, length-drop}
+use lib.Seq.{length-take-le}
 use Rattle.text.specs.Reading.{pointAt}
-use Rattle.text.proofs.Steps.{rest}
+use Rattle.text.proofs.Steps.{nothing-after, point-within, rest}
 use borrow.Author.Needs.{needs}
 use Rattle.text.proofs.of_unsigned.Statement.{statement}
 use Rattle.text.proofs.of_unsigned.Tie as tie
@@ -16,63 +17,58 @@ use Rattle.text.proofs.of_unsigned.Tie as tie
 point-at-requires : tie.Need-point-at-requires
 point-at-requires c κs = search needs
 
-slice-aggregate-of-parts : tie.Need-slice-aggregate-of-parts
-slice-aggregate-of-parts c = sym (length-take-le (c .before .before .point-at .result) (c .before .before .before .before .args .chars .now) (omega arith))
+add-after : tie.Need-add-after
+add-after c = search needs
 
-add-of-parts : tie.Need-add-of-parts
-add-of-parts c = search needs
+-- the point is at most the length
+point-in : (c : tie.After-point-at) → c .point-at .result ≤ length (c .before .before .args .chars .now)
+point-in c = rw (c .point-at .ensures) (point-within (c .before .before .args .chars .now))
+
+-- the place after it is at least the point and at most the length
+after-in : (c : tie.Joined1) → (c .before .point-at .result ≤ c .if1 .after) × (c .if1 .after ≤ length (c .before .before .before .args .chars .now))
+after-in c = let h = point-in (c .before) in ⊎-elim (λ w. (omega arith, omega arith)) (λ w. (omega arith, omega arith)) (c .if1 .came)
+
+-- what stands at that place is what the definition has after the point
+fraction : (c : tie.Joined1) → drop (c .if1 .after) (c .before .before .before .args .chars .now) ≡ drop (suc (pointAt (c .before .before .before .args .chars .now))) (c .before .before .before .args .chars .now)
+fraction c =
+    let chars = c .before .before .before .args .chars .now in
+    let p = c .before .point-at .ensures in
+    ⊎-elim (λ w. rw (w .1, add-one (c .before .point-at .result), p)) (λ w. rw (w .1, p) (nothing-after chars (rw p at (w .0 .left)))) (c .if1 .came)
+
+slice-aggregate-of-parts : tie.Need-slice-aggregate-of-parts
+slice-aggregate-of-parts c = let p = c .before .before in sym (length-take-le (p .point-at .result) (p .before .before .args .chars .now) (point-in p))
 
 sub-of-parts : tie.Need-sub-of-parts
-sub-of-parts c = search needs
+sub-of-parts c = after-in (c .before .before) .1
 
 part-of-parts-start : tie.Need-part-of-parts-start
-part-of-parts-start c = search needs
+part-of-parts-start c = after-in (c .before .before) .1
 
 part-of-parts-end : tie.Need-part-of-parts-end
 part-of-parts-end c = search needs
 
 of-parts-requires : tie.Need-of-parts-requires
-of-parts-requires c κs = let s = c .before .before .before .before .before in (s .pre .0, simp (length-take, length-drop) (omega (arith, s .pre .1)))
-
-sub-of-parts-2 : tie.Need-sub-of-parts-2
-sub-of-parts-2 c = search needs
-
-part-of-parts-start-2 : tie.Need-part-of-parts-start-2
-part-of-parts-start-2 c = search needs
-
-part-of-parts-end-2 : tie.Need-part-of-parts-end-2
-part-of-parts-end-2 c = search needs
-
-of-parts-requires-2 : tie.Need-of-parts-requires-2
-of-parts-requires-2 c κs = search needs
+of-parts-requires c κs =
+    let j = c .before .before .before in
+    let s = j .before .before .before in
+    let h = after-in j in
+    (omega (arith, s .pre .0), simp (length-take, length-drop) (omega (arith, s .pre .1)))
 
 returns : tie.Need-returns
 returns c =
-    let p = c .before .before .before .before in
-    c .of-parts .ensures ∙ rw (rest (p .before .before .args .chars .now) (p .point-at .result + 1), add-one (p .point-at .result), p .point-at .ensures)
-
-returns-2 : tie.Need-returns-2
-returns-2 c =
-    let p = c .before .before .before in
-    let chars = p .before .before .args .chars .now in
-    let h : length chars ≤ pointAt chars = rw (p .point-at .ensures) at (c .before .before .if1 .left) in
-    c .of-parts2 .ensures
-    ∙ rw (rest chars (length chars), drop-length chars, take-all (pointAt chars) chars h, drop-of-length-le chars {i = suc (pointAt chars)} (omega arith))
+    let j = c .before .before .before .before in
+    let chars = j .before .before .before .args .chars .now in
+    c .of-parts .ensures ∙ rw (rest chars (j .if1 .after), fraction j, j .before .point-at .ensures)
 
 pub of-unsigned-spec : {M : Type 1} → statement M
 of-unsigned-spec =
     tie.close
     (tie.spec
     point-at-requires
+    add-after
     slice-aggregate-of-parts
-    add-of-parts
     sub-of-parts
     part-of-parts-start
     part-of-parts-end
     of-parts-requires
-    sub-of-parts-2
-    part-of-parts-start-2
-    part-of-parts-end-2
-    of-parts-requires-2
-    returns
-    returns-2)
+    returns)
