@@ -11,8 +11,9 @@ use borrow.Author.Tests.{eq-eqb, ne-eqb}
 use lib.ListN.{length, getD, take, set, length-append, length-set}
 use lib.Seq.{slice, sets, take-at, drop-at, take-all, getD-set-other, take-set-le, take-set-lt, drop-set-lt}
 use Rattle.rkc.specs.declared.Link.{Link}
+use Rattle.rkc.specs.Bytes.{fromLow, lowFirst}
 use Rattle.rkc.specs.State.{inPhase}
-use Rattle.panel.specs.State.{stateBytes, isMarked, markByte, fromLow, lowFirst, fields, unknownPhase, unpacked, packed, HoldsNothing}
+use Rattle.panel.specs.State.{stateBytes, isMarked, markByte, fields, unknownPhase, unpacked, packed, HoldsNothing}
 use Rattle.panel.proofs.Parts.{sets-append, sets-all}
 
 -- the bytes past the kept characters

@@ -3,11 +3,12 @@
 use mathlib.Core.Bool.{Bool, cond, not}
 use mathlib.Core.List.{List, [], _∷_, _++_}
 use mathlib.Core.Logic.{_⊎_}
-use Prim.Native.Nat.{ℕ, zero, suc, _+_, _*_, _/_, _%_, _<_}
+use Prim.Native.Nat.{ℕ, _<_}
 use lib.Dec.{eqb}
 use lib.ListN.{length, getD}
 use lib.Seq.{slice}
 use Rattle.rkc.specs.declared.Link.{Link}
+use Rattle.rkc.specs.Bytes.{fromLow, lowFirst}
 use Rattle.rkc.specs.State.{inPhase}
 
 abbrev pub stateBytes : ℕ
@@ -19,16 +20,6 @@ isMarked byte = not (eqb byte 0)
 
 abbrev pub markByte : Bool → ℕ
 markByte mark = cond mark 1 0
-
--- the number that bytes make, the low one first
-abbrev pub fromLow : List ℕ → ℕ
-fromLow [] = 0
-fromLow (b ∷ bs) = b + 256 * fromLow bs
-
--- the low k bytes of a number, the lowest first
-abbrev pub lowFirst : ℕ → ℕ → List ℕ
-lowFirst zero n = []
-lowFirst (suc k) n = n % 256 ∷ lowFirst k (n / 256)
 
 -- each field at its place
 abbrev pub fields : List ℕ → Link

@@ -1,4 +1,5 @@
 pub mod Lists
+pub mod Bytes
 pub mod Cases
 pub mod Limits
 pub mod Demands

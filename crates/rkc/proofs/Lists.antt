@@ -1,44 +1,15 @@
--- Laws on lists that the proofs of this crate share: the kept characters, a run of characters sent, a test of each character.
+-- Laws on lists that the proofs of this crate share: a list by its elements, a run of characters sent, a test of each character.
 -- Assumes nothing.
-use mathlib.Core.Path.{_≡_, refl, sym, ap, _∙_}
-use mathlib.Core.Bool.{Bool, true, false, cond, _&&_}
+use mathlib.Core.Path.{_≡_, sym, ap, _∙_}
+use mathlib.Core.Bool.{_&&_}
 use mathlib.Core.List.{List, [], _∷_, map}
-use Prim.Native.Nat.{ℕ, zero, suc, _+_, _<_, _≤_, zero-le}
+use Prim.Native.Nat.{ℕ, zero, suc, _+_, _<_, _≤_}
 use native.Mathlib.Numerals.{add-one}
 use native.Mathlib.Omega.{arith}
-use borrow.Author.Tests.{lt-ltb, le-ltb, ltb-true, ltb-false}
-use lib.Dec.{ltb}
 use lib.ListN.{length, getD, set, drop, drop-of-length-le}
 use lib.Seq.{drop-cons, sets}
 use Rattle.line.specs.Line.{sent}
-use Rattle.rkc.specs.State.{keptAt, upTo, isCharacter, allCharacters}
-
--- ---- the kept characters
-
-pub up-to-length : (n : ℕ) (l : List ℕ) → length (upTo n l) ≡ length l
-up-to-length n [] = refl
-up-to-length zero (c ∷ cs) = ap suc (up-to-length zero cs)
-up-to-length (suc n) (c ∷ cs) = ap suc (up-to-length n cs)
-
-nothing-kept : (b : Bool) → _≡_ {A = ℕ} 0 (cond b 0 0)
-nothing-kept true = refl
-nothing-kept false = refl
-
-pub up-to-at : (n : ℕ) (l : List ℕ) (i : ℕ) → getD (upTo n l) i 0 ≡ keptAt n l i
-up-to-at n [] i = nothing-kept (ltb i n)
-up-to-at zero (c ∷ cs) zero = refl
-up-to-at zero (c ∷ cs) (suc i) =
-    up-to-at zero cs i ∙ ap (λ (b : Bool). cond b (getD cs i 0) 0) (le-ltb i 0 zero-le ∙ sym (le-ltb (suc i) 0 zero-le))
-up-to-at (suc n) (c ∷ cs) zero = simp (lt-ltb 0 (suc n) (omega arith))
-up-to-at (suc n) (c ∷ cs) (suc i) =
-    up-to-at n cs i ∙ ap (λ (b : Bool). cond b (getD cs i 0) 0) (same-test i n)
-  where
-    same-test : (a b : ℕ) → ltb a b ≡ ltb (suc a) (suc b)
-    same-test a b = by (ltb a b) refl
-      where
-        by : (t : Bool) → ltb a b ≡ t → t ≡ ltb (suc a) (suc b)
-        by true t = let h = ltb-true a b t in sym (lt-ltb (suc a) (suc b) (omega arith))
-        by false t = let h = ltb-false a b t in sym (le-ltb (suc a) (suc b) (omega arith))
+use Rattle.rkc.specs.State.{isCharacter, allCharacters}
 
 -- a list by its elements, of any number of them
 abbrev pub listed-from : List ℕ → ℕ → ℕ → List ℕ

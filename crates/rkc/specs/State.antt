@@ -42,10 +42,6 @@ upTo count [] = []
 upTo zero (c ∷ cs) = 0 ∷ upTo zero cs
 upTo (suc count) (c ∷ cs) = c ∷ upTo count cs
 
--- the same at one place
-abbrev pub keptAt : ℕ → List ℕ → ℕ → ℕ
-keptAt count kept i = cond (ltb i count) (getD kept i 0) 0
-
 -- a block is open, or its BCC is due
 abbrev pub inBlock : ℕ → Bool
 inBlock phase = within text bccDue phase

@@ -4,8 +4,8 @@
 // the character asks for), and perform, the only one that touches the table and the reply buffer.
 ghost use mathlib.Core.Path.{_≡_};
 ghost use mathlib.Core.Bool.{_||_};
-ghost use mathlib.Core.List.{map};
-ghost use Prim.Native.Nat.{_≤_, _<_};
+ghost use mathlib.Core.List.{[], _∷_, map};
+ghost use Prim.Native.Nat.{_^_, _≤_, _<_};
 ghost use lib.ListN.{length, set};
 ghost use lib.Seq.{sets};
 ghost use Rattle.line.specs.Line.{sent, within, isLineError};
@@ -13,7 +13,8 @@ ghost use Rattle.items.specs.ItemList.{items, found};
 ghost use Rattle.phases.specs.Limits.{Limited};
 ghost use Rattle.phases.specs.Phases.{rest};
 ghost use Rattle.block.specs.Block.{verdict};
-ghost use Rattle.rkc.specs.State.{inPhase, holdingOne, holdingTwo, waitingOn, block, keptAt, upTo, used, allCharacters, inLimits, blockInLimits, oneMore, withMore, withEnd};
+ghost use Rattle.rkc.specs.Bytes.{fromLow, lowFirst};
+ghost use Rattle.rkc.specs.State.{inPhase, holdingOne, holdingTwo, waitingOn, block, upTo, used, allCharacters, inLimits, blockInLimits, oneMore, withMore, withEnd};
 ghost use Rattle.rkc.specs.Outcome.{silent, sends, quit, dataReply, itemSent, polled, judged, performed, callFault, goodSettings, byteFault, received, elapsed, idleFault, idled};
 ghost use Rattle.rkc.specs.Promise.{Steps, Leads};
 use block::Verdict;
@@ -148,28 +149,70 @@ fn block(phase: u8, count: u8, bcc: u8, mark: bool, kept: [u8; 8]) -> Link
     }
 }
 
-// A kept character, 0 from the count on.
-fn kept_at(kept: [u8; 8], count: u8, i: u8) -> u8
-    requires { ⌜ i < 8 ⌝ }
-    ensures { λ r. ⌜ r ≡ keptAt count kept i ⌝ }
+// The number that eight bytes make, the low one first.
+fn from_low(a: u8, b: u8, c: u8, d: u8, e: u8, f: u8, g: u8, h: u8) -> u64
+    ensures { λ r. ⌜ r ≡ fromLow (a ∷ b ∷ c ∷ d ∷ e ∷ f ∷ g ∷ h ∷ []) ⌝ }
 {
-    if i < count { kept[i as usize] } else { 0 }
+    a as u64
+        + 256
+            * (b as u64
+                + 256
+                    * (c as u64
+                        + 256
+                            * (d as u64
+                                + 256
+                                    * (e as u64
+                                        + 256 * (f as u64 + 256 * (g as u64 + 256 * (h as u64)))))))
+}
+
+// The same of an array.
+fn number_of(kept: [u8; 8]) -> u64
+    ensures { λ r. ⌜ r ≡ fromLow kept ⌝ }
+{
+    from_low(
+        kept[0],
+        kept[1],
+        kept[2],
+        kept[3],
+        kept[4],
+        kept[5],
+        kept[6],
+        kept[7],
+    )
+}
+
+// The eight bytes of a number, the low one first.
+fn low_first(n: u64) -> [u8; 8]
+    ensures { λ r. ⌜ r ≡ lowFirst 8 n ⌝ }
+{
+    [
+        (n % 256) as u8,
+        (n / 256 % 256) as u8,
+        (n / 256 / 256 % 256) as u8,
+        (n / 256 / 256 / 256 % 256) as u8,
+        (n / 256 / 256 / 256 / 256 % 256) as u8,
+        (n / 256 / 256 / 256 / 256 / 256 % 256) as u8,
+        (n / 256 / 256 / 256 / 256 / 256 / 256 % 256) as u8,
+        (n / 256 / 256 / 256 / 256 / 256 / 256 / 256 % 256) as u8,
+    ]
+}
+
+// The least number of more bytes than these.
+fn past_bytes(count: u8) -> u64
+    requires { ⌜ count < 8 ⌝ }
+    ensures { λ r. ⌜ r ≡ 256 ^ count ⌝ }
+{
+    1 << (8 * (count as u64))
 }
 
 // The kept characters up to the count, and 0 past it.
 fn kept_up_to(kept: [u8; 8], count: u8) -> [u8; 8]
     ensures { λ r. ⌜ r ≡ upTo count kept ⌝ }
 {
-    [
-        kept_at(kept, count, 0),
-        kept_at(kept, count, 1),
-        kept_at(kept, count, 2),
-        kept_at(kept, count, 3),
-        kept_at(kept, count, 4),
-        kept_at(kept, count, 5),
-        kept_at(kept, count, 6),
-        kept_at(kept, count, 7),
-    ]
+    if 8 <= count {
+        return kept;
+    }
+    low_first(number_of(kept) % past_bytes(count))
 }
 
 // Whether no character is 80H or more.

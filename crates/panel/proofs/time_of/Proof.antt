@@ -2,7 +2,7 @@
 use borrow.Author.Needs.{needs}
 use mathlib.Core.Path.{ap, _∙_}
 use native.Mathlib.Omega.{arith}
-use Rattle.panel.specs.State.{fromLow}
+use Rattle.rkc.specs.Bytes.{fromLow}
 use Rattle.panel.proofs.Parts.{part-elements}
 use Rattle.panel.proofs.time_of.Statement.{statement}
 use Rattle.panel.proofs.time_of.Tie as tie

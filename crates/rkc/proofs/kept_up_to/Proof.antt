@@ -1,64 +1,42 @@
--- `rkc::kept_up_to` meets its contract: its eight elements are those of `upTo`. Assumes nothing.
+-- `rkc::kept_up_to` meets its contract: from eight on all is kept, below that what is left of the number. Assumes nothing.
 use borrow.Author.Needs.{needs}
 use mathlib.Core.Path.{_≡_, sym, _∙_}
-use lib.ListN.{length}
-use Rattle.rkc.specs.State.{upTo}
-use Rattle.rkc.proofs.Lists.{up-to-length, up-to-at, elements}
+use Prim.Native.Nat.{ℕ, _≤_}
+use native.Mathlib.Nat.{one-le-pow}
+use native.Mathlib.Omega.{arith}
+use lib.ListN.{length, getD}
+use mir.Syntax.{w8}
+use mir.Val.{Fits}
+use Rattle.rkc.proofs.Bytes.{up-to-all, low-up-to}
 use Rattle.rkc.proofs.kept_up_to.Statement.{statement}
 use Rattle.rkc.proofs.kept_up_to.Tie as tie
 
-kept-at-requires : tie.Need-kept-at-requires
-kept-at-requires c κs = search needs
-
-kept-at-requires-2 : tie.Need-kept-at-requires-2
-kept-at-requires-2 c κs = search needs
-
-kept-at-requires-3 : tie.Need-kept-at-requires-3
-kept-at-requires-3 c κs = search needs
-
-kept-at-requires-4 : tie.Need-kept-at-requires-4
-kept-at-requires-4 c κs = search needs
-
-kept-at-requires-5 : tie.Need-kept-at-requires-5
-kept-at-requires-5 c κs = search needs
-
-kept-at-requires-6 : tie.Need-kept-at-requires-6
-kept-at-requires-6 c κs = search needs
-
-kept-at-requires-7 : tie.Need-kept-at-requires-7
-kept-at-requires-7 c κs = search needs
-
-kept-at-requires-8 : tie.Need-kept-at-requires-8
-kept-at-requires-8 c κs = search needs
-
 returns : tie.Need-returns
 returns c =
-    let s = c .before .before .before .before .before .before .before .before in
-    let n = s .args .count in
+    let kept = c .before .args .kept in
+    let eight : length kept ≡ 8 = search needs in
+    let past : length kept ≤ c .before .args .count = omega arith in
+    sym (up-to-all (c .before .args .count) kept past)
+
+number-of-requires : tie.Need-number-of-requires
+number-of-requires c κs = search needs
+
+past-bytes-requires : tie.Need-past-bytes-requires
+past-bytes-requires c κs = search needs
+
+rem-low-first : tie.Need-rem-low-first
+rem-low-first c = rw (c .past-bytes .ensures) (one-le-pow _ 256 (omega arith))
+
+low-first-requires : tie.Need-low-first-requires
+low-first-requires c κs = search needs
+
+returns-2 : tie.Need-returns-2
+returns-2 c =
+    let s = c .before .before .before .before in
     let kept = s .args .kept in
     let eight : length kept ≡ 8 = search needs in
-    rw (
-      c .before .before .before .before .before .before .before .kept-at .ensures ∙ sym (up-to-at n kept 0),
-      c .before .before .before .before .before .before .kept-at2 .ensures ∙ sym (up-to-at n kept 1),
-      c .before .before .before .before .before .kept-at3 .ensures ∙ sym (up-to-at n kept 2),
-      c .before .before .before .before .kept-at4 .ensures ∙ sym (up-to-at n kept 3),
-      c .before .before .before .kept-at5 .ensures ∙ sym (up-to-at n kept 4),
-      c .before .before .kept-at6 .ensures ∙ sym (up-to-at n kept 5),
-      c .before .kept-at7 .ensures ∙ sym (up-to-at n kept 6),
-      c .kept-at8 .ensures ∙ sym (up-to-at n kept 7),
-    )
-    (elements (upTo n kept) 8 (up-to-length n kept ∙ eight))
+    let bytes : (i : ℕ) → Fits w8 (getD kept i 0) = λ i. search needs in
+    c .low-first .ensures ∙ rw (c .before .past-bytes .ensures, c .before .before .number-of .ensures) (rw eight at (low-up-to (s .args .count) kept (λ i. bytes i .fits)))
 
 pub kept-up-to-spec : {M : Type 1} → statement M
-kept-up-to-spec =
-    tie.close
-    (tie.spec
-    kept-at-requires
-    kept-at-requires-2
-    kept-at-requires-3
-    kept-at-requires-4
-    kept-at-requires-5
-    kept-at-requires-6
-    kept-at-requires-7
-    kept-at-requires-8
-    returns)
+kept-up-to-spec = tie.close (tie.spec returns number-of-requires past-bytes-requires rem-low-first low-first-requires returns-2)

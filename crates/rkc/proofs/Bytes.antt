@@ -1,0 +1,50 @@
+-- The kept characters up to the count are the bytes of a remainder of the number that they make.
+-- Assumes nothing.
+use mathlib.Core.Path.{_≡_, refl, sym, ap, _∙_}
+use mathlib.Core.List.{List, [], _∷_}
+use Prim.Native.Nat.{ℕ, zero, suc, _+_, _*_, _/_, _%_, _^_, _<_, _≤_}
+use native.Mathlib.Nat.{one-le-pow, pow-suc, mod-one}
+use native.Mathlib.Omega.{arith}
+use lib.Arith.{mod-mul}
+use lib.ListN.{length, getD}
+use lib.Pow.{pow-add}
+use Rattle.rkc.specs.Bytes.{fromLow, lowFirst}
+use Rattle.rkc.specs.State.{upTo}
+
+-- ---- a count from the list's length on keeps all
+
+pub up-to-all : (n : ℕ) (l : List ℕ) → length l ≤ n → upTo n l ≡ l
+up-to-all n [] h = refl
+up-to-all zero (c ∷ cs) h = absurd (omega arith)
+up-to-all (suc n) (c ∷ cs) h = ap (λ (r : List ℕ). c ∷ r) (up-to-all n cs (omega arith))
+
+-- ---- below it, what is left of the number
+
+low-zero : (l : List ℕ) → lowFirst (length l) 0 ≡ upTo zero l
+low-zero [] = refl
+low-zero (c ∷ cs) = ap (λ (r : List ℕ). 0 ∷ r) (low-zero cs)
+
+-- a byte stays below a remainder of one byte more
+byte-below : (n b m : ℕ) → b < 256 → (b + 256 * m) % 256 ^ suc n ≡ 256 * (m % 256 ^ n) + b
+byte-below n b m h =
+    let e : (b + 256 * m) / 256 ≡ m = omega arith in
+    let f : (b + 256 * m) % 256 ≡ b = omega arith in
+    rw (pow-suc 256 n, mod-mul (b + 256 * m) {m = 256 ^ n} {c = 256} (one-le-pow n 256 (omega arith)) (omega arith), e, f) (omega arith)
+
+pub low-up-to : (n : ℕ) (l : List ℕ) → ((i : ℕ) → getD l i 0 < 256) → lowFirst (length l) (fromLow l % 256 ^ n) ≡ upTo n l
+low-up-to n [] h = refl
+low-up-to zero (c ∷ cs) h = rw (mod-one (fromLow (c ∷ cs))) (low-zero (c ∷ cs))
+low-up-to (suc n) (c ∷ cs) h =
+    let small = h 0 in
+    let m = fromLow cs % 256 ^ n in
+    let e : (256 * m + c) % 256 ≡ c = omega arith in
+    let f : (256 * m + c) / 256 ≡ m = omega arith in
+    rw (byte-below n c (fromLow cs) small, e, f) (ap (λ (r : List ℕ). c ∷ r) (low-up-to n cs (λ i. h (suc i))))
+
+-- ---- the power by a shift
+
+pub bits-bytes : (n : ℕ) → 2 ^ (8 * n) ≡ 256 ^ n
+bits-bytes zero = refl
+bits-bytes (suc n) =
+    let e : 8 * suc n ≡ 8 * n + 8 = omega arith in
+    rw (e, pow-add 2 (8 * n) 8, bits-bytes n, pow-suc 256 n)

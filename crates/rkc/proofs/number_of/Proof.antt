@@ -1,0 +1,56 @@
+-- `rkc::number_of` meets its contract: the eight bytes are the elements of the array. Assumes nothing.
+use borrow.Author.Needs.{needs}
+use mathlib.Core.Path.{_≡_, ap, _∙_}
+use lib.ListN.{length}
+use Rattle.rkc.specs.Bytes.{fromLow}
+use Rattle.rkc.proofs.Lists.{elements}
+use Rattle.rkc.proofs.number_of.Statement.{statement}
+use Rattle.rkc.proofs.number_of.Tie as tie
+
+array-read-from-low : tie.Need-array-read-from-low
+array-read-from-low c = search needs
+
+array-read-from-low-2 : tie.Need-array-read-from-low-2
+array-read-from-low-2 c = search needs
+
+array-read-from-low-3 : tie.Need-array-read-from-low-3
+array-read-from-low-3 c = search needs
+
+array-read-from-low-4 : tie.Need-array-read-from-low-4
+array-read-from-low-4 c = search needs
+
+array-read-from-low-5 : tie.Need-array-read-from-low-5
+array-read-from-low-5 c = search needs
+
+array-read-from-low-6 : tie.Need-array-read-from-low-6
+array-read-from-low-6 c = search needs
+
+array-read-from-low-7 : tie.Need-array-read-from-low-7
+array-read-from-low-7 c = search needs
+
+array-read-from-low-8 : tie.Need-array-read-from-low-8
+array-read-from-low-8 c = search needs
+
+from-low-requires : tie.Need-from-low-requires
+from-low-requires c κs = search needs
+
+returns : tie.Need-returns
+returns c =
+    let kept = c .before .args .t1 in
+    let eight : length kept ≡ 8 = search needs in
+    c .from-low .ensures ∙ ap fromLow (elements kept 8 eight)
+
+pub number-of-spec : {M : Type 1} → statement M
+number-of-spec =
+    tie.close
+    (tie.spec
+    array-read-from-low
+    array-read-from-low-2
+    array-read-from-low-3
+    array-read-from-low-4
+    array-read-from-low-5
+    array-read-from-low-6
+    array-read-from-low-7
+    array-read-from-low-8
+    from-low-requires
+    returns)
