@@ -10,7 +10,7 @@ use Rattle.rkc.specs.declared.Link.{Link}
 use Rattle.rkc.specs.declared.Stepped.{Stepped}
 use Rattle.rkc.specs.Outcome.{Step, received, idled}
 use Rattle.rkc.specs.Promise.{Steps, Leads}
-use Rattle.panel.specs.State.{stateBytes, unpacked}
+use Rattle.state.specs.State.{stateBytes, unpacked}
 use Rattle.panel.specs.Calls.{isCallFault}
 use Rattle.panel.specs.Promise.{longestReply, Holdable, Held, StepLeft, ByteLeft}
 use Rattle.panel.proofs.Replies.{received-short, received-whole, idled-short, idled-whole}

@@ -28,7 +28,7 @@ use Rattle.rkc.specs.State.{inPhase, used, inLimits}
 use Rattle.rkc.specs.Outcome.{Step, Outcome, dataReply, itemSent, polled, judged, performed, received}
 use Rattle.rkc.specs.Outcome.{unless, leastBuffer, shortBuffer, badSetting, badState, callFault, goodSettings, byteFault, elapsed, patience, idleFault, passed, idled}
 use Rattle.rkc.proofs.Cases.{byte-none, call-none}
-use Rattle.panel.specs.State.{stateBytes, fields, unknownPhase, unpacked}
+use Rattle.state.specs.State.{stateBytes, fields, unknownPhase, unpacked}
 use Rattle.panel.specs.Calls.{isCallFault}
 use Rattle.panel.specs.Promise.{longestReply}
 

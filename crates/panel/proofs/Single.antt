@@ -11,7 +11,7 @@ use Rattle.items.specs.Promise.{Lent}
 use Rattle.items.proofs.Single.{lent-single}
 use Rattle.text.specs.Reading.{reading}
 use Rattle.rkc.specs.Outcome.{Step, received, idled}
-use Rattle.panel.specs.State.{unpacked}
+use Rattle.state.specs.State.{unpacked}
 use Rattle.panel.specs.Calls.{linkStartNumber, linkStart, width, textNumber, textLeft}
 use Rattle.panel.specs.Promise.{LentBytes, ReadText, StepLeft, ByteLeft, FrameLeft}
 

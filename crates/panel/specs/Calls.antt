@@ -2,7 +2,7 @@
 use mathlib.Core.Bool.{Bool, cond, _&&_}
 use mathlib.Core.List.{List}
 use Prim.Native.Nat.{ℕ, _+_, _*_}
-use lib.Dec.{eqb, leb}
+use lib.Dec.{leb}
 use lib.IntN.{ℤ}
 use lib.ListN.{length}
 use lib.Seq.{sets}
@@ -12,7 +12,7 @@ use Rattle.phases.specs.Phases.{rest}
 use Rattle.rkc.specs.declared.Link.{Link}
 use Rattle.rkc.specs.State.{inPhase}
 use Rattle.rkc.specs.Outcome.{shortBuffer, badState}
-use Rattle.panel.specs.State.{stateBytes, packed}
+use Rattle.state.specs.State.{isState, packed, packedInto}
 
 -- the number and the length of the reply in one
 abbrev pub result : ℕ → ℕ → ℕ
@@ -28,15 +28,12 @@ heldAfter s number l = cond (isCallFault number) s (packed l)
 
 -- ---- the start of a link
 
-abbrev pub isState : List ℕ → Bool
-isState s = eqb (length s) stateBytes
-
 abbrev pub linkStartNumber : List ℕ → ℕ
 linkStartNumber s = cond (isState s) none badState
 
 -- rest, all else 0
 abbrev pub linkStart : List ℕ → List ℕ
-linkStart s = cond (isState s) (packed (inPhase rest)) s
+linkStart s = packedInto s (inPhase rest)
 
 -- ---- writing text
 

@@ -1,3 +1,2 @@
-pub mod State
 pub mod Calls
 pub mod Promise

@@ -13,7 +13,7 @@ use Rattle.text.specs.Numbers.{numberOf, valueOf}
 use Rattle.items.specs.Table.{none}
 use Rattle.crc.specs.Damage.{Spoils, flip}
 use Rattle.rtu.specs.Frame.{wrongCrc, callFault, actedOn}
-use Rattle.panel.specs.State.{stateBytes}
+use Rattle.state.specs.State.{stateBytes}
 use Rattle.panel.specs.Calls.{result, isCallFault, heldAfter}
 
 -- it gives back this number, and leaves the bytes so

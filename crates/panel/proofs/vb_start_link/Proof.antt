@@ -2,7 +2,7 @@
 use borrow.Author.Needs.{needs}
 use mathlib.Core.Path.{ap, _∙_}
 use borrow.Author.Tests.{eq-eqb, ne-eqb}
-use Rattle.panel.specs.State.{packed}
+use Rattle.state.specs.State.{packedInto}
 use Rattle.panel.proofs.vb_start_link.Statement.{statement}
 use Rattle.panel.proofs.vb_start_link.Tie as tie
 
@@ -22,8 +22,11 @@ same-length c = search needs
 
 returns-2 : tie.Need-returns-2
 returns-2 c =
-    let whole = eq-eqb _ _ (c .before .before .before .before .before .if1 .left) in
-    record { given = rw whole; left = c .before .before .pack .ensures ∙ ap packed (c .before .before .before .start .ensures) ∙ rw whole }
+    let s = c .before .before .before .before .before .before .before .args .state .now in
+    record {
+      given = rw (eq-eqb _ _ (c .before .before .before .before .before .if1 .left));
+      left = c .before .before .pack .ensures ∙ ap (packedInto s) (c .before .before .before .start .ensures);
+    }
 
 pub vb-start-link-spec : {M : Type 1} → statement M
 vb-start-link-spec =

@@ -1,8 +1,8 @@
--- `panel::put_time` meets its contract: each byte is what `low_byte` promises. Assumes nothing.
+-- `state::put_time` meets its contract: each byte is what `low_byte` promises. Assumes nothing.
 use borrow.Author.Needs.{needs}
 use mathlib.Core.Path.{_∙_}
-use Rattle.panel.proofs.put_time.Statement.{statement}
-use Rattle.panel.proofs.put_time.Tie as tie
+use Rattle.state.proofs.put_time.Statement.{statement}
+use Rattle.state.proofs.put_time.Tie as tie
 
 low-byte-requires : tie.Need-low-byte-requires
 low-byte-requires c κs = search needs

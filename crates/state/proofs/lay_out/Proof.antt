@@ -1,8 +1,8 @@
--- `panel::pack` meets its contract: its runs of stores lay the state out whole. Assumes nothing.
+-- `state::lay_out` meets its contract: its runs of stores lay the state out whole. Assumes nothing.
 use borrow.Author.Needs.{needs}
-use Rattle.panel.proofs.Packing.{laid-out}
-use Rattle.panel.proofs.pack.Statement.{statement}
-use Rattle.panel.proofs.pack.Tie as tie
+use Rattle.state.proofs.Packing.{laid-out}
+use Rattle.state.proofs.lay_out.Statement.{statement}
+use Rattle.state.proofs.lay_out.Tie as tie
 
 put-four-requires : tie.Need-put-four-requires
 put-four-requires c κs = search needs
@@ -35,8 +35,8 @@ returns c =
     (c .before .before .before .before .before .before .put-kept .ensures)
     (c .before .before .put-four3 .ensures)
 
-pub pack-spec : {M : Type 1} → statement M
-pack-spec =
+pub lay-out-spec : {M : Type 1} → statement M
+lay-out-spec =
     tie.close
     (tie.spec
     put-four-requires

@@ -1,11 +1,11 @@
--- `panel::put_four` meets its contract: the places are the next ones after the first, as a run of stores counts them. Assumes nothing.
+-- `state::put_four` meets its contract: the places are the next ones after the first, as a run of stores counts them. Assumes nothing.
 use borrow.Author.Needs.{needs}
 use mathlib.Core.Path.{_≡_}
 use Prim.Native.Nat.{suc, _+_}
 use native.Mathlib.Omega.{arith}
 use lib.ListN.{length-set}
-use Rattle.panel.proofs.put_four.Statement.{statement}
-use Rattle.panel.proofs.put_four.Tie as tie
+use Rattle.state.proofs.put_four.Statement.{statement}
+use Rattle.state.proofs.put_four.Tie as tie
 
 slice-write-state : tie.Need-slice-write-state
 slice-write-state c = search needs

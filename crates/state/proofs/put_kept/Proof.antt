@@ -1,12 +1,12 @@
--- `panel::put_kept` meets its contract: two runs of four are one of eight, which are the elements of the kept characters.
+-- `state::put_kept` meets its contract: two runs of four are one of eight, which are the elements of the kept characters.
 -- Assumes nothing.
 use borrow.Author.Needs.{needs}
 use mathlib.Core.Path.{_≡_, ap, _∙_}
 use lib.ListN.{length}
 use lib.Seq.{sets}
 use Rattle.rkc.proofs.Lists.{elements}
-use Rattle.panel.proofs.put_kept.Statement.{statement}
-use Rattle.panel.proofs.put_kept.Tie as tie
+use Rattle.state.proofs.put_kept.Statement.{statement}
+use Rattle.state.proofs.put_kept.Tie as tie
 
 array-read-put-four : tie.Need-array-read-put-four
 array-read-put-four c = search needs

@@ -1,11 +1,11 @@
--- `panel::time_of` meets its contract: four elements are a part of the list. Assumes nothing.
+-- `state::time_of` meets its contract: four elements are a part of the list. Assumes nothing.
 use borrow.Author.Needs.{needs}
 use mathlib.Core.Path.{ap, _∙_}
 use native.Mathlib.Omega.{arith}
 use Rattle.rkc.specs.Bytes.{fromLow}
-use Rattle.panel.proofs.Parts.{part-elements}
-use Rattle.panel.proofs.time_of.Statement.{statement}
-use Rattle.panel.proofs.time_of.Tie as tie
+use Rattle.state.proofs.Parts.{part-elements}
+use Rattle.state.proofs.time_of.Statement.{statement}
+use Rattle.state.proofs.time_of.Tie as tie
 
 shared-slice-read-from-low : tie.Need-shared-slice-read-from-low
 shared-slice-read-from-low c = search needs

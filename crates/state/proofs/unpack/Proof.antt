@@ -1,8 +1,8 @@
--- `panel::unpack` meets its contract: bytes of another length, and those of the right one field by field. Assumes nothing.
+-- `state::unpack` meets its contract: bytes of another length, and those of the right one field by field. Assumes nothing.
 use borrow.Author.Needs.{needs}
-use Rattle.panel.proofs.Packing.{other-length, own-length}
-use Rattle.panel.proofs.unpack.Statement.{statement}
-use Rattle.panel.proofs.unpack.Tie as tie
+use Rattle.state.proofs.Packing.{other-length, own-length}
+use Rattle.state.proofs.unpack.Statement.{statement}
+use Rattle.state.proofs.unpack.Tie as tie
 
 returns : tie.Need-returns
 returns c = other-length _ (c .if1 .taken)

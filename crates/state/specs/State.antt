@@ -14,6 +14,10 @@ use Rattle.rkc.specs.State.{inPhase}
 abbrev pub stateBytes : ℕ
 stateBytes = 24
 
+-- whether bytes can hold a state
+abbrev pub isState : List ℕ → Bool
+isState s = eqb (length s) stateBytes
+
 -- any byte but 0 marks
 abbrev pub isMarked : ℕ → Bool
 isMarked byte = not (eqb byte 0)
@@ -41,7 +45,7 @@ unknownPhase = 255
 -- the state that bytes hold: those of another length hold an unknown phase, so that each step refuses them in its place among
 -- the faults
 unfoldable pub unpacked : List ℕ → Link
-unpacked s = cond (eqb (length s) stateBytes) (fields s) (inPhase unknownPhase)
+unpacked s = cond (isState s) (fields s) (inPhase unknownPhase)
 
 -- the bytes that hold a state
 unfoldable pub packed : Link → List ℕ
@@ -49,6 +53,10 @@ packed l =
     l .phase ∷ l .item ∷ l .count ∷ l .bcc
     ∷ markByte (l .mark) ∷ 0 ∷ 0 ∷ 0
     ∷ (lowFirst 4 (l .time) ++ (l .kept ++ (0 ∷ 0 ∷ 0 ∷ 0 ∷ [])))
+
+-- the bytes once they were given a state to hold: those of another length stay
+abbrev pub packedInto : List ℕ → Link → List ℕ
+packedInto s l = cond (isState s) (packed l) s
 
 -- the bytes that hold nothing: 5, 6, 7, and 20 to 23
 abbrev pub HoldsNothing : ℕ → Type 0

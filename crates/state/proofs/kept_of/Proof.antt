@@ -1,9 +1,9 @@
--- `panel::kept_of` meets its contract: eight elements are a part of the list. Assumes nothing.
+-- `state::kept_of` meets its contract: eight elements are a part of the list. Assumes nothing.
 use borrow.Author.Needs.{needs}
 use native.Mathlib.Omega.{arith}
-use Rattle.panel.proofs.Parts.{part-elements}
-use Rattle.panel.proofs.kept_of.Statement.{statement}
-use Rattle.panel.proofs.kept_of.Tie as tie
+use Rattle.state.proofs.Parts.{part-elements}
+use Rattle.state.proofs.kept_of.Statement.{statement}
+use Rattle.state.proofs.kept_of.Tie as tie
 
 shared-slice-read-t3 : tie.Need-shared-slice-read-t3
 shared-slice-read-t3 c = search needs

@@ -13,8 +13,8 @@ use lib.Seq.{slice, sets, take-at, drop-at, take-all, getD-set-other, take-set-l
 use Rattle.rkc.specs.declared.Link.{Link}
 use Rattle.rkc.specs.Bytes.{fromLow, lowFirst}
 use Rattle.rkc.specs.State.{inPhase}
-use Rattle.panel.specs.State.{stateBytes, isMarked, markByte, fields, unknownPhase, unpacked, packed, HoldsNothing}
-use Rattle.panel.proofs.Parts.{sets-append, sets-all}
+use Rattle.state.specs.State.{stateBytes, isMarked, markByte, fields, unknownPhase, unpacked, packed, HoldsNothing}
+use Rattle.state.proofs.Parts.{sets-append, sets-all}
 
 -- the bytes past the kept characters
 abbrev zeros : List ℕ
