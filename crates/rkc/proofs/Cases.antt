@@ -17,11 +17,12 @@ use Rattle.text.specs.Writing.{written}
 use Rattle.text.specs.declared.Written.{Written}
 use Rattle.rkc.specs.declared.Link.{Link}
 use Rattle.rkc.specs.declared.Stepped.{Stepped}
-use Rattle.rkc.specs.State.{waitingOn, used, inLimits}
+use Rattle.rkc.specs.State.{waitingOn, asBlock, used, inLimits}
 use Rattle.rkc.specs.Outcome.{Step, Outcome, silent, quit, noRoom, dataReply, itemSent, keeping, performed, asked, handedBack, received}
 use Rattle.rkc.specs.Outcome.{firstMet, unless, leastBuffer, shortBuffer, badSetting, badState, callFault, goodSettings, byteFault}
 use Rattle.rkc.specs.Outcome.{elapsed, patience, timedOut, idleFault, passed, idled}
 use Rattle.rkc.specs.Promise.{Steps, Leads}
+use Rattle.rkc.proofs.Used.{asked-used, performed-used}
 
 -- an equal step, an equal outcome
 pub steps-by : {s s′ : Step} {r : Stepped} {b a : List ℕ} → s ≡ s′ → Steps s′ r b a → Steps s r b a
@@ -110,10 +111,16 @@ module _ (l : Link) (t : List ℤ) (buffer address structure time byte : ℕ) {f
   unfolding received
   received-fault n = rw (← e) (simp (ne-eqb f none n))
 
-  pub received-fine : {k : Link} {c : ℕ} {x : Act} → f ≡ none → k ≡ used l → c ≡ heard structure byte → x ≡ asked k address c
-      → received l t buffer address structure time byte ≡ performed k t structure time x
+  pub received-fine : f ≡ none → received l t buffer address structure time byte ≡ performed (used l) t structure time (asked (used l) address (heard structure byte))
   unfolding received
-  received-fine z ek ec ex = rw (ex, ← ek, ← e, ← ec) (simp (eq-eqb f none z))
+  received-fine z = rw (← e) (simp (eq-eqb f none z))
+
+  -- the state itself is asked, and as a block it is what an act is performed in
+  pub received-act : {c : ℕ} {x : Act} → f ≡ none → c ≡ heard structure byte → x ≡ asked l address c
+      → received l t buffer address structure time byte ≡ performed (asBlock l) t structure time x
+  received-act z ec ex =
+      received-fine z
+      ∙ rw (ex, ec, asked-used l address (heard structure byte)) (performed-used l t structure time address (heard structure byte))
 
 -- ---- an idle call: a fault, another phase, too early, three seconds
 

@@ -115,7 +115,7 @@ module _ (l : Link) (t : List ℤ) (buffer address structure time byte : ℕ) wh
   by-outcome P fault fine = by (eqb (byteFault l t buffer address structure) none) refl
     where
       by : (b : Bool) → eqb (byteFault l t buffer address structure) none ≡ b → P (received l t buffer address structure time byte)
-      by true e = let z = eqb-true _ _ e in rw (received-fine l t buffer address structure time byte refl z refl refl refl) (fine z)
+      by true e = let z = eqb-true _ _ e in rw (received-fine l t buffer address structure time byte refl z) (fine z)
       by false e = let n = eqb-false _ _ e in rw (received-fault l t buffer address structure time byte refl n) (fault n)
 
   -- where no fault is met: buffer, settings and state, and the state after the step
@@ -125,7 +125,7 @@ module _ (l : Link) (t : List ℤ) (buffer address structure time byte : ℕ) wh
   after : byteFault l t buffer address structure ≡ none → inLimits (received l t buffer address structure time byte .step .link) ≡ true
   after z =
       let h = fine z .2 in
-      rw (received-fine l t buffer address structure time byte refl z refl refl refl)
+      rw (received-fine l t buffer address structure time byte refl z)
       (performed-limits (used l) t structure time _ (used-small l h) (asked-limited l h address (heard structure byte)))
 
   good-after : goodTable t ≡ true → goodTable (received l t buffer address structure time byte .table) ≡ true

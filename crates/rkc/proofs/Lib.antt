@@ -1,5 +1,6 @@
 pub mod Lists
 pub mod Bytes
+pub mod Used
 pub mod Cases
 pub mod Limits
 pub mod Demands

@@ -31,6 +31,7 @@ use Rattle.rkc.specs.declared.Link.{Link}
 use Rattle.rkc.specs.State.{inPhase, holdingOne, holdingTwo, waitingOn, block, upTo, inBlock, used, isCharacter, allCharacters}
 use Rattle.rkc.specs.State.{mostCounted, blockInLimits, inLimits, oneMore, withMore, withEnd}
 use Rattle.rkc.specs.Outcome.{asked, quit, noRoom, dataReply, itemSent, polled, judged, performed}
+use Rattle.rkc.proofs.Used.{asked-used}
 
 -- what is used of a state has its phase
 pub used-phase : (l : Link) → used l .phase ≡ l .phase
@@ -59,6 +60,9 @@ module _ (l : Link) (h : inLimits l ≡ true) where
   asked-limited address c =
       decided-limited (used l .phase) (getD (used l .kept) 0 0) (getD (used l .kept) 1 0) (used l .item) address c
       (λ e. first-small (sym (used-phase l) ∙ e)) (λ e. item-listed (sym (used-phase l) ∙ e))
+
+  pub act-limited : (address c : ℕ) {x : Act} → x ≡ asked l address c → Limited x
+  act-limited address c e = rw (e ∙ sym (asked-used l address c)) (asked-limited address c)
 
 -- ---- what a step leaves is within its limits
 

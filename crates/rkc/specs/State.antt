@@ -46,13 +46,17 @@ upTo (suc count) (c ∷ cs) = c ∷ upTo count cs
 abbrev pub inBlock : ℕ → Bool
 inBlock phase = within text bccDue phase
 
+-- what text and BCC due use of a state
+abbrev pub asBlock : Link → Link
+asBlock l = block (l .phase) (l .count) (l .bcc) (l .mark) (upTo (l .count) (l .kept))
+
 -- the state with all that its phase doesn't use at 0
 unfoldable pub used : Link → Link
 used l =
     cond (eqb (l .phase) oneCharacter) (holdingOne (getD (l .kept) 0 0))
     (cond (eqb (l .phase) twoCharacters) (holdingTwo (getD (l .kept) 0 0) (getD (l .kept) 1 0))
     (cond (eqb (l .phase) waiting) (waitingOn (l .item) (l .time))
-    (cond (inBlock (l .phase)) (block (l .phase) (l .count) (l .bcc) (l .mark) (upTo (l .count) (l .kept)))
+    (cond (inBlock (l .phase)) (asBlock l)
     (inPhase (l .phase)))))
 
 -- ---- limits

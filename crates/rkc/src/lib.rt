@@ -1,7 +1,8 @@
 // The RKC link: one received byte, one idle call. The state is taken in by value and handed back by each step.
 //
-// A byte call goes through these: fault (the caller's faults), used (what the phase does not use becomes 0), phases::decide (what
-// the character asks for), and perform, the only one that touches the table and the reply buffer.
+// A byte call goes through these: fault (the caller's faults), phases::decide (what the character asks for), and perform, the only
+// one that touches the table and the reply buffer. Each looks at no more than the phase uses, so that only a block has its kept
+// characters cut at the count.
 ghost use mathlib.Core.Path.{_≡_};
 ghost use mathlib.Core.Bool.{_||_};
 ghost use mathlib.Core.List.{[], _∷_, map};
@@ -14,7 +15,7 @@ ghost use Rattle.phases.specs.Limits.{Limited};
 ghost use Rattle.phases.specs.Phases.{rest};
 ghost use Rattle.block.specs.Block.{verdict};
 ghost use Rattle.rkc.specs.Bytes.{fromLow, lowFirst};
-ghost use Rattle.rkc.specs.State.{inPhase, holdingOne, holdingTwo, waitingOn, block, upTo, used, allCharacters, inLimits, blockInLimits, oneMore, withMore, withEnd};
+ghost use Rattle.rkc.specs.State.{inPhase, holdingOne, holdingTwo, waitingOn, block, upTo, asBlock, used, allCharacters, inLimits, blockInLimits, oneMore, withMore, withEnd};
 ghost use Rattle.rkc.specs.Outcome.{silent, sends, quit, dataReply, itemSent, polled, judged, performed, callFault, goodSettings, byteFault, received, elapsed, idleFault, idled};
 ghost use Rattle.rkc.specs.Promise.{Steps, Leads};
 use block::Verdict;
@@ -320,11 +321,12 @@ impl Link {
 
     // The block with one more character of its text, as it was heard.
     fn with_more(self, c: u8) -> Link
-        ensures { λ r. ⌜ r ≡ withMore self c ⌝ }
+        ensures { λ r. ⌜ r ≡ withMore (asBlock self) c ⌝ }
     {
         let low = line::low_seven(c);
         let before = self.kept;
-        let kept = keep(before, self.count, low);
+        let front = kept_up_to(before, self.count);
+        let kept = keep(front, self.count, low);
         block(
             TEXT,
             one_more(self.count),
@@ -336,9 +338,10 @@ impl Link {
 
     // The block whose text has ended.
     fn with_end(self) -> Link
-        ensures { λ r. ⌜ r ≡ withEnd self ⌝ }
+        ensures { λ r. ⌜ r ≡ withEnd (asBlock self) ⌝ }
     {
-        let kept = self.kept;
+        let before = self.kept;
+        let kept = kept_up_to(before, self.count);
         block(BCC_DUE, self.count, self.bcc ^ ETX, self.mark, kept)
     }
 
@@ -518,7 +521,7 @@ impl Link {
         }
     }
 
-    // What an act says is done.
+    // What an act says is done. Only in a block does an act ask for the state.
     fn perform(
         self,
         act: Act,
@@ -528,7 +531,7 @@ impl Link {
         time: u32,
     ) -> Stepped
         requires { ⌜ (256 ≤ length (now reply)) × Limited act ⌝ }
-        ensures { λ r. ⌜ Leads (performed self (now (table .entry)) structure time act) r (now (reply .entry)) (now (reply .exit)) (now (table .exit)) ⌝ }
+        ensures { λ r. ⌜ Leads (performed (asBlock self) (now (table .entry)) structure time act) r (now (reply .entry)) (now (reply .exit)) (now (table .exit)) ⌝ }
     {
         match act {
             Act::Go(phase) => silent(in_phase(phase)),
@@ -563,11 +566,10 @@ impl Link {
                 len: 0,
             };
         }
-        let link = self.used();
-        let kept = link.kept;
+        let kept = self.kept;
         let c = line::heard(structure, byte);
-        let act = phases::decide(link.phase, kept[0], kept[1], link.item, address, c);
-        link.perform(act, table, reply, structure, time)
+        let act = phases::decide(self.phase, kept[0], kept[1], self.item, address, c);
+        self.perform(act, table, reply, structure, time)
     }
 }
 

@@ -1,8 +1,8 @@
 -- `Link::byte` meets its contract: a fault hands everything back, else what was asked for is performed. Assumes nothing.
 use borrow.Author.Needs.{needs}
 use mathlib.Core.Path.{refl, sym, _∙_}
-use Rattle.rkc.proofs.Cases.{leads-by, byte-none, call-none, received-fault, received-fine}
-use Rattle.rkc.proofs.Limits.{asked-limited}
+use Rattle.rkc.proofs.Cases.{leads-by, byte-none, call-none, received-fault, received-act}
+use Rattle.rkc.proofs.Limits.{act-limited}
 use Rattle.rkc.proofs.Link.byte.Statement.{statement}
 use Rattle.rkc.proofs.Link.byte.Tie as tie
 
@@ -16,9 +16,6 @@ returns : tie.Need-returns
 returns c =
     leads-by (received-fault _ _ _ _ _ _ _ (c .before .byte-fault .ensures) (c .if1 .taken))
     (record { steps = record { back = refl; sent = refl }; left = refl })
-
-used-requires : tie.Need-used-requires
-used-requires c κs = search needs
 
 heard-requires : tie.Need-heard-requires
 heard-requires c κs = search needs
@@ -34,8 +31,8 @@ decide-requires c κs = search needs
 
 perform-requires : tie.Need-perform-requires
 perform-requires c κs =
-    let fine = call-none _ _ _ (byte-none _ _ _ _ _ (sym (c .before .before .before .before .before .before .before .byte-fault .ensures) ∙ c .before .before .before .before .before .before .if1 .left) .1) in
-    (fine .0, rw (c .before .before .decide .ensures, c .before .before .before .before .before .used .ensures) (asked-limited _ (fine .2) _ _))
+    let fine = call-none _ _ _ (byte-none _ _ _ _ _ (sym (c .before .before .before .before .before .before .byte-fault .ensures) ∙ c .before .before .before .before .before .if1 .left) .1) in
+    (fine .0, act-limited _ (fine .2) _ _ (c .before .before .decide .ensures))
 
 same-length-2 : tie.Need-same-length-2
 same-length-2 c = search needs
@@ -45,7 +42,7 @@ same-length-3 c = search needs
 
 returns-2 : tie.Need-returns-2
 returns-2 c =
-    leads-by (received-fine _ _ _ _ _ _ _ (c .before .before .before .before .before .before .before .before .before .before .before .byte-fault .ensures) (c .before .before .before .before .before .before .before .before .before .before .if1 .left) (c .before .before .before .before .before .before .before .before .before .used .ensures) (c .before .before .before .before .before .before .before .heard .ensures) (c .before .before .before .before .before .before .decide .ensures))
+    leads-by (received-act _ _ _ _ _ _ _ (c .before .before .before .before .before .before .before .before .before .before .byte-fault .ensures) (c .before .before .before .before .before .before .before .before .before .if1 .left) (c .before .before .before .before .before .before .before .heard .ensures) (c .before .before .before .before .before .before .decide .ensures))
     (c .before .before .before .perform .ensures)
 
 pub byte-spec : {M : Type 1} → statement M
@@ -55,7 +52,6 @@ byte-spec =
     byte-fault-requires
     same-length
     returns
-    used-requires
     heard-requires
     array-read-decide
     array-read-decide-2

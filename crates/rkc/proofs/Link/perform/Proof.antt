@@ -1,8 +1,9 @@
 -- `Link::perform` meets its contract: each act by its own case of `performed`. Assumes nothing.
 use borrow.Author.Needs.{needs}
-use mathlib.Core.Path.{refl, _∙_}
+use mathlib.Core.Path.{refl, ap, _∙_}
 use native.Mathlib.Omega.{arith}
-use Rattle.rkc.specs.Outcome.{performed}
+use Rattle.rkc.specs.Outcome.{judged, performed}
+use Rattle.rkc.proofs.Used.{verdict-up-to}
 use Rattle.rkc.proofs.Cases.{leads-by, done-by}
 use Rattle.rkc.proofs.Link.perform.Statement.{statement}
 use Rattle.rkc.proofs.Link.perform.Tie as tie
@@ -153,7 +154,8 @@ same-length-7 c = search needs
 returns-9 : tie.Need-returns-9
 unfolding performed
 returns-9 c =
-    leads-by (done-by _ _ _ _ (c .before .before .before .before .before .before .before .act8 .given .1)) (c .before .before .before .judge .ensures)
+    leads-by (done-by _ _ _ _ (c .before .before .before .before .before .before .before .act8 .given .1))
+    (leads-by (ap (judged _ _) (verdict-up-to _ _ _ _ _)) (c .before .before .before .judge .ensures))
 
 pub perform-spec : {M : Type 1} → statement M
 perform-spec =

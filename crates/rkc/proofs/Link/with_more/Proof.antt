@@ -8,6 +8,9 @@ use Rattle.rkc.proofs.Link.with_more.Tie as tie
 low-seven-requires : tie.Need-low-seven-requires
 low-seven-requires c κs = search needs
 
+kept-up-to-requires : tie.Need-kept-up-to-requires
+kept-up-to-requires c κs = search needs
+
 keep-requires : tie.Need-keep-requires
 keep-requires c κs = search needs
 
@@ -24,7 +27,8 @@ returns : tie.Need-returns
 unfolding withMore
 returns c =
     c .block .ensures
-    ∙ rw (c .before .marked .ensures, c .before .before .before .one-more .ensures, c .before .before .before .before .keep .ensures, c .before .before .before .before .before .before .low-seven .ensures)
+    ∙ rw (c .before .marked .ensures, c .before .before .before .one-more .ensures, c .before .before .before .before .keep .ensures, c .before .before .before .before .before .kept-up-to .ensures, c .before .before .before .before .before .before .before .low-seven .ensures)
 
 pub with-more-spec : {M : Type 1} → statement M
-with-more-spec = tie.close (tie.spec low-seven-requires keep-requires one-more-requires marked-requires block-requires returns)
+with-more-spec =
+    tie.close (tie.spec low-seven-requires kept-up-to-requires keep-requires one-more-requires marked-requires block-requires returns)
