@@ -22,7 +22,7 @@ use Rattle.rkc.specs.Outcome.{Step, Outcome, silent, quit, noRoom, dataR
 use Rattle.rkc.specs.Outcome.{firstMet, unless, leastBuffer, shortBuffer, badSetting, badState, callFault, goodSettings, byteFault}
 use Rattle.rkc.specs.Outcome.{elapsed, patience, timedOut, idleFault, passed, idled}
 use Rattle.rkc.specs.Promise.{Steps, Leads}
-use Rattle.rkc.proofs.Used.{asked-used, performed-used}
+use Rattle.rkc.proofs.Used.{used-phase, used-waiting, asked-used, performed-used}
 
 -- an equal step, an equal outcome
 pub steps-by : {s s′ : Step} {r : Stepped} {b a : List ℕ} → s ≡ s′ → Steps s′ r b a → Steps s r b a
@@ -129,16 +129,17 @@ module _ (l : Link) (buffer structure time : ℕ) {f : ℕ} (e : f ≡ idleFault
   unfolding idled
   idled-fault n = rw (← e) (simp (ne-eqb f none n))
 
-  pub idled-fine : {k : Link} → f ≡ none → k ≡ used l → idled l buffer structure time ≡ passed k structure time
+  pub idled-fine : f ≡ none → idled l buffer structure time ≡ passed (used l) structure time
   unfolding idled
-  idled-fine z ek = rw (← ek, ← e) (simp (eq-eqb f none z))
+  idled-fine z = rw (← e) (simp (eq-eqb f none z))
 
-module _ (k : Link) (structure time : ℕ) where
-  pub passed-other : (k .phase ≡ waiting → ⊥) → passed k structure time ≡ silent k
-  passed-other n = simp (ne-eqb _ _ n)
+module _ (l : Link) (structure time : ℕ) where
+  pub passed-other : (l .phase ≡ waiting → ⊥) → passed (used l) structure time ≡ silent (used l)
+  passed-other n = simp (ne-eqb (used l .phase) waiting (λ e. n (sym (used-phase l) ∙ e)))
 
-  pub passed-early : {m : ℕ} → k .phase ≡ waiting → m ≡ elapsed time (k .time) → m < patience → passed k structure time ≡ silent k
-  passed-early p q h = simp (eq-eqb _ _ p, ← q, lt-leb _ _ h)
+  module _ {m : ℕ} (p : l .phase ≡ waiting) (q : m ≡ elapsed time (l .time)) where
+    pub passed-early : m < patience → passed (used l) structure time ≡ silent (used l)
+    passed-early h = rw (used-waiting l p) (simp (← q, lt-leb _ _ h))
 
-  pub passed-late : {m : ℕ} → k .phase ≡ waiting → m ≡ elapsed time (k .time) → patience ≤ m → passed k structure time ≡ quit structure timedOut
-  passed-late p q h = simp (eq-eqb _ _ p, ← q, le-leb _ _ h)
+    pub passed-late : patience ≤ m → passed (used l) structure time ≡ quit structure timedOut
+    passed-late h = rw (used-waiting l p) (simp (← q, le-leb _ _ h))

@@ -165,7 +165,7 @@ module _ (l : Link) (buffer structure time : ℕ) where
       by : (b : Bool) → eqb (idleFault l buffer structure) none ≡ b → P (idled l buffer structure time)
       by true e =
           let z = eqb-true _ _ e in
-          rw (idled-fine l buffer structure time refl z refl)
+          rw (idled-fine l buffer structure time refl z)
           (passing (eqb (used l .phase) waiting && leb patience (elapsed time (used l .time))) z)
       by false e = let n = eqb-false _ _ e in rw (idled-fault l buffer structure time refl n) (fault n)
 

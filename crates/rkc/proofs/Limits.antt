@@ -5,7 +5,7 @@ use mathlib.Core.Bool.{Bool, true, false, cond, _&&_}
 use mathlib.Core.List.{List, [], _∷_, map}
 use Prim.Native.Nat.{ℕ, zero, suc, _+_, _-_, _<_, _≤_}
 use native.Mathlib.Omega.{arith}
-use borrow.Author.Tests.{eqb-true, eq-eqb, ne-eqb, ltb-true, lt-ltb, leb-true, le-leb}
+use borrow.Author.Tests.{eq-eqb, ne-eqb, ltb-true, lt-ltb, leb-true, le-leb}
 use lib.Dec.{eqb, ltb, leb, lit≤, lit<}
 use lib.IntN.{ℤ}
 use lib.ListN.{getD, set}
@@ -31,20 +31,7 @@ use Rattle.rkc.specs.declared.Link.{Link}
 use Rattle.rkc.specs.State.{inPhase, holdingOne, holdingTwo, waitingOn, block, upTo, inBlock, used, isCharacter, allCharacters}
 use Rattle.rkc.specs.State.{mostCounted, blockInLimits, inLimits, oneMore, withMore, withEnd}
 use Rattle.rkc.specs.Outcome.{asked, quit, noRoom, dataReply, itemSent, polled, judged, performed}
-use Rattle.rkc.proofs.Used.{asked-used}
-
--- what is used of a state has its phase
-pub used-phase : (l : Link) → used l .phase ≡ l .phase
-unfolding used
-used-phase l = by (eqb (l .phase) oneCharacter) (eqb (l .phase) twoCharacters) (eqb (l .phase) waiting) (inBlock (l .phase)) refl refl refl
-  where
-    by : (a b c d : Bool) → eqb (l .phase) oneCharacter ≡ a → eqb (l .phase) twoCharacters ≡ b → eqb (l .phase) waiting ≡ c
-        → (cond a (holdingOne (getD (l .kept) 0 0)) (cond b (holdingTwo (getD (l .kept) 0 0) (getD (l .kept) 1 0)) (cond c (waitingOn (l .item) (l .time)) (cond d (block (l .phase) (l .count) (l .bcc) (l .mark) (upTo (l .count) (l .kept))) (inPhase (l .phase)))))) .phase ≡ l .phase
-    by true b c d p q r = sym (eqb-true _ _ p)
-    by false true c d p q r = sym (eqb-true _ _ q)
-    by false false true d p q r = sym (eqb-true _ _ r)
-    by false false false true p q r = refl
-    by false false false false p q r = refl
+use Rattle.rkc.proofs.Used.{used-phase, asked-used}
 
 -- an identifier's first character, and an item that is waited on
 module _ (l : Link) (h : inLimits l ≡ true) where

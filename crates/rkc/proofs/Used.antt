@@ -1,6 +1,6 @@
 -- A step looks at a state only where its phase uses it: it asks and does the same of a state as of what is used of it.
 -- Assumes nothing.
-use mathlib.Core.Path.{_≡_, refl, ap}
+use mathlib.Core.Path.{_≡_, refl, sym, ap}
 use mathlib.Core.Bool.{Bool, true, false, cond, not, _||_}
 use mathlib.Core.List.{List, [], _∷_}
 use Prim.Native.Nat.{ℕ, zero, suc, _/_, _%_, _<_, _≤_}
@@ -23,6 +23,25 @@ use Rattle.block.specs.declared.Verdict.{Verdict}
 use Rattle.rkc.specs.declared.Link.{Link}
 use Rattle.rkc.specs.State.{inPhase, holdingOne, holdingTwo, waitingOn, upTo, asBlock, inBlock, used}
 use Rattle.rkc.specs.Outcome.{performed, asked}
+
+-- ---- the phase, and the time that waiting uses
+
+-- what is used of a state has its phase
+pub used-phase : (l : Link) → used l .phase ≡ l .phase
+unfolding used
+used-phase l = by (eqb (l .phase) oneCharacter) (eqb (l .phase) twoCharacters) (eqb (l .phase) waiting) (inBlock (l .phase)) refl refl refl
+  where
+    by : (a b c d : Bool) → eqb (l .phase) oneCharacter ≡ a → eqb (l .phase) twoCharacters ≡ b → eqb (l .phase) waiting ≡ c
+        → (cond a (holdingOne (getD (l .kept) 0 0)) (cond b (holdingTwo (getD (l .kept) 0 0) (getD (l .kept) 1 0)) (cond c (waitingOn (l .item) (l .time)) (cond d (asBlock l) (inPhase (l .phase)))))) .phase ≡ l .phase
+    by true b c d p q r = sym (eqb-true _ _ p)
+    by false true c d p q r = sym (eqb-true _ _ q)
+    by false false true d p q r = sym (eqb-true _ _ r)
+    by false false false true p q r = refl
+    by false false false false p q r = refl
+
+pub used-waiting : (l : Link) → l .phase ≡ waiting → used l ≡ waitingOn (l .item) (l .time)
+unfolding used
+used-waiting l e = rw e
 
 -- ---- kept characters past the count
 

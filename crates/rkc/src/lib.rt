@@ -593,13 +593,11 @@ impl Link {
                 len: 0,
             };
         }
-        let link = self.used();
-        if link.phase != WAITING {
-            return silent(link);
+        if self.phase == WAITING {
+            if PATIENCE <= elapsed(time, self.time) {
+                return quit(reply, structure, TIMED_OUT);
+            }
         }
-        if elapsed(time, link.time) < PATIENCE {
-            return silent(link);
-        }
-        quit(reply, structure, TIMED_OUT)
+        silent(self.used())
     }
 }

@@ -1,5 +1,6 @@
--- `Link::idle` meets its contract: a fault, another phase, too early, three seconds. Assumes nothing.
+-- `Link::idle` meets its contract: a fault; three seconds; another phase or too early. Assumes nothing.
 use borrow.Author.Needs.{needs}
+use mathlib.Core.Logic.{⊎-elim}
 use mathlib.Core.Path.{refl, sym, _∙_}
 use native.Mathlib.Omega.{arith}
 use Rattle.rkc.specs.Outcome.{idleFault}
@@ -14,41 +15,37 @@ returns : tie.Need-returns
 returns c =
     steps-by (idled-fault _ _ _ _ (c .before .idle-fault .ensures) (c .if1 .taken)) (record { back = refl; sent = refl })
 
+elapsed-requires : tie.Need-elapsed-requires
+elapsed-requires c κs = search needs
+
+quit-requires : tie.Need-quit-requires
+unfolding idleFault
+quit-requires c κs =
+    let room = call-none _ _ _ (sym (c .before .before .before .before .before .before .idle-fault .ensures) ∙ c .before .before .before .before .before .if1 .left) .0 in
+    omega (arith, room)
+
+same-length : tie.Need-same-length
+same-length c = search needs
+
+returns-2 : tie.Need-returns-2
+returns-2 c =
+    steps-by (idled-fine _ _ _ _ (c .before .before .before .before .before .before .before .before .before .idle-fault .ensures) (c .before .before .before .before .before .before .before .before .if1 .left) ∙ passed-late _ _ _ (c .before .before .before .before .before .before .if2 .taken) (c .before .before .before .before .before .elapsed .ensures) (c .before .before .before .before .if3 .taken))
+    (c .before .before .quit .ensures)
+
 used-requires : tie.Need-used-requires
 used-requires c κs = search needs
 
 silent-requires : tie.Need-silent-requires
 silent-requires c κs = search needs
 
-returns-2 : tie.Need-returns-2
-returns-2 c =
-    steps-by (idled-fine _ _ _ _ (c .before .before .before .before .before .idle-fault .ensures) (c .before .before .before .before .if1 .left) (c .before .before .before .used .ensures) ∙ passed-other _ _ _ (c .before .if2 .taken))
-    (record { back = c .silent .ensures; sent = refl })
-
-elapsed-requires : tie.Need-elapsed-requires
-elapsed-requires c κs = search needs
-
-silent-requires-2 : tie.Need-silent-requires-2
-silent-requires-2 c κs = search needs
-
 returns-3 : tie.Need-returns-3
 returns-3 c =
-    steps-by (idled-fine _ _ _ _ (c .before .before .before .before .before .before .before .idle-fault .ensures) (c .before .before .before .before .before .before .if1 .left) (c .before .before .before .before .before .used .ensures) ∙ passed-early _ _ _ (c .before .before .before .if2 .left) (c .before .before .elapsed .ensures) (c .before .if3 .taken))
-    (record { back = c .silent2 .ensures; sent = refl })
-
-quit-requires : tie.Need-quit-requires
-unfolding idleFault
-quit-requires c κs =
-    let room = call-none _ _ _ (sym (c .before .before .before .before .before .before .before .idle-fault .ensures) ∙ c .before .before .before .before .before .before .if1 .left) .0 in
-    omega (arith, room)
-
-same-length : tie.Need-same-length
-same-length c = search needs
-
-returns-4 : tie.Need-returns-4
-returns-4 c =
-    steps-by (idled-fine _ _ _ _ (c .before .before .before .before .before .before .before .before .before .before .idle-fault .ensures) (c .before .before .before .before .before .before .before .before .before .if1 .left) (c .before .before .before .before .before .before .before .before .used .ensures) ∙ passed-late _ _ _ (c .before .before .before .before .before .before .if2 .left) (c .before .before .before .before .before .elapsed .ensures) (c .before .before .before .before .if3 .left))
-    (c .before .before .quit .ensures)
+    let s = c .before .before .before .before .before .before .before .args in
+    let waited =
+    ⊎-elim (λ w. passed-early (s .self) (s .structure) (s .time) (w .0 .taken) (w .1 .ensures) (w .2 .left))
+    (λ w. passed-other (s .self) (s .structure) (s .time) (w .left)) (c .before .before .if2 .came) in
+    steps-by (idled-fine _ _ _ _ (c .before .before .before .before .before .idle-fault .ensures) (c .before .before .before .before .if1 .left) ∙ waited)
+    (record { back = c .silent .ensures ∙ rw (c .before .used .ensures); sent = refl })
 
 pub idle-spec : {M : Type 1} → statement M
 idle-spec =
@@ -56,12 +53,10 @@ idle-spec =
     (tie.spec
     idle-fault-requires
     returns
-    used-requires
-    silent-requires
-    returns-2
     elapsed-requires
-    silent-requires-2
-    returns-3
     quit-requires
     same-length
-    returns-4)
+    returns-2
+    used-requires
+    silent-requires
+    returns-3)
