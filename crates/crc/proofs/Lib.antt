@@ -1,6 +1,5 @@
 pub mod Xor
 pub mod Shifts
-pub mod Table
 pub mod Bytes
 pub mod Flip
 pub mod AsSent

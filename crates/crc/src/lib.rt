@@ -1,49 +1,41 @@
 // The CRC-16 of Modbus RTU: start FFFFH, A001H, low bit first, low byte sent first.
 ghost use mathlib.Core.Path.{_≡_};
-ghost use Prim.Native.Nat.{ℕ, _+_, _*_, _<_};
-ghost use lib.ListN.{getD};
-ghost use Rattle.crc.specs.Crc.{shifts, crc16Of, isRight, Seals};
+ghost use Prim.Native.Nat.{_+_, _*_};
+ghost use lib.Bits.{bitXor};
+ghost use Rattle.crc.specs.Crc.{shift, shifts, crc16Of, isRight, Seals};
 
 const START: u16 = 0xFFFF;
 
-// What four shifts make of each number under 16.
-const FOUR_SHIFTS: [u16; 16] = [
-    0x0000,
-    0xCC01,
-    0xD801,
-    0x1400,
-    0xF001,
-    0x3C00,
-    0x2800,
-    0xE401,
-    0xA001,
-    0x6C00,
-    0x7800,
-    0xB401,
-    0x5000,
-    0x9C01,
-    0x8801,
-    0x4400,
-];
+const POLY: u16 = 0xA001;
 
-// The register after four shifts: the upper bits move down, and the four that fall out decide what is added. The table is lent,
-// since the constant, named here, would be laid out anew at each step.
-fn four_shifts(table: &[u16; 16], crc: u16) -> u16
-    requires { ⌜ ((n : ℕ) → n < 16 → getD (now table) n 0 ≡ shifts 4 n) ⌝ }
-    ensures { λ r. ⌜ r ≡ shifts 4 crc ⌝ }
+// The register after one shift. The bit that falls out, 0 or 1, times the polynomial spares a test.
+fn shift(crc: u16) -> u16
+    ensures { λ r. ⌜ r ≡ shift crc ⌝ }
 {
-    (crc >> 4) ^ table[(crc % 16) as usize]
+    (crc >> 1) ^ (crc % 2 * POLY)
+}
+
+// The register after one byte more: a shift for each of its bits.
+fn take_in(crc: u16, byte: u8) -> u16
+    ensures { λ r. ⌜ r ≡ shifts 8 (bitXor crc byte) ⌝ }
+{
+    let mut moved = crc ^ (byte as u16);
+    let mut left: u8 = 8;
+    while 0 < left {
+        moved = shift(moved);
+        left -= 1;
+    }
+    moved
 }
 
 // The CRC of some bytes.
 pub fn crc16(bytes: &[u8]) -> u16
     ensures { λ r. ⌜ r ≡ crc16Of (now (bytes .entry)) ⌝ }
 {
-    let table = FOUR_SHIFTS;
     let mut crc = START;
     let mut i = 0;
     while i < bytes.len() {
-        crc = four_shifts(&table, four_shifts(&table, crc ^ (bytes[i] as u16)));
+        crc = take_in(crc, bytes[i]);
         i += 1;
     }
     crc

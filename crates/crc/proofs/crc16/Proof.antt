@@ -9,29 +9,24 @@ use borrow.Author.Needs.{needs}
 use lib.Bits.{bitXor}
 use lib.ListN.{length, getD, drop, drop-of-length-le}
 use lib.Seq.{drop-cons}
-use Rattle.crc.specs.Crc.{start, shift, shifts, crcFrom, crc16Of}
-use Rattle.crc.proofs.Shifts.{shifts-add}
-use Rattle.crc.proofs.Table.{values-at}
+use Rattle.crc.specs.Crc.{start, shifts, crcFrom, crc16Of}
 use Rattle.crc.proofs.crc16.Statement.{statement}
 use Rattle.crc.proofs.crc16.Tie as tie
 
 abbrev Inv-loop : tie.InvT-loop
-Inv-loop bytes table crc₀ i₀ crc i = (i ≤ length bytes) × (crcFrom crc (drop i bytes) ≡ crc16Of bytes)
+Inv-loop bytes crc₀ i₀ crc i = (i ≤ length bytes) × (crcFrom crc (drop i bytes) ≡ crc16Of bytes)
 
 abbrev μ-loop : tie.MeasureT-loop
-μ-loop bytes table crc₀ i₀ crc i = length bytes - i
+μ-loop bytes crc₀ i₀ crc i = length bytes - i
 
 all-left : (bytes : List ℕ) (crc : ℕ) → crc ≡ start → crcFrom crc (drop 0 bytes) ≡ crc16Of bytes
 unfolding crc16Of
 all-left bytes crc e = ap (λ (r : ℕ). crcFrom r bytes) e
 
--- four shifts and four more are the eight of a byte
-one-less : (bytes : List ℕ) (i crc half next result : ℕ) → i < length bytes → crcFrom crc (drop i bytes) ≡ result
-    → half ≡ shifts 4 (bitXor crc (getD bytes i 0)) → next ≡ shifts 4 half → crcFrom next (drop (i + 1) bytes) ≡ result
+one-less : (bytes : List ℕ) (i crc next result : ℕ) → i < length bytes → crcFrom crc (drop i bytes) ≡ result
+    → next ≡ shifts 8 (bitXor crc (getD bytes i 0)) → crcFrom next (drop (i + 1) bytes) ≡ result
 unfolding crcFrom
-one-less bytes i crc half next result more inv p q =
-    let x = bitXor crc (getD bytes i 0) in
-    let e : next ≡ shifts 8 x = q ∙ ap (shifts 4) p ∙ sym (shifts-add 4 4 x) in
+one-less bytes i crc next result more inv e =
     ap₂ crcFrom e (ap (λ (k : ℕ). drop k bytes) (add-one i)) ∙ sym (ap (crcFrom crc) (drop-cons bytes i 0 more)) ∙ inv
 
 none-left : (bytes : List ℕ) (i crc result : ℕ) → length bytes ≤ i → crcFrom crc (drop i bytes) ≡ result → crc ≡ result
@@ -41,20 +36,11 @@ none-left bytes i crc result end inv = sym (ap (crcFrom crc) (drop-of-length-le 
 loop-holds : tie.Need-loop-holds Inv-loop μ-loop
 loop-holds c = (search needs, all-left _ _ (omega arith))
 
-shared-slice-read-four-shifts : tie.Need-shared-slice-read-four-shifts Inv-loop μ-loop
-shared-slice-read-four-shifts c = search needs
+shared-slice-read-take-in : tie.Need-shared-slice-read-take-in Inv-loop μ-loop
+shared-slice-read-take-in c = search needs
 
-cast-four-shifts : tie.Need-cast-four-shifts Inv-loop μ-loop
-cast-four-shifts c = omega (arith, c .shared-slice-known2 .given (c .before .before .before .before .loop .i))
-
--- the table is computed, entry by entry
-four-shifts-requires : tie.Need-four-shifts-requires Inv-loop μ-loop
-unfolding shifts shift
-four-shifts-requires c κs = values-at (shifts 4) 16
-
-four-shifts-requires-2 : tie.Need-four-shifts-requires-2 Inv-loop μ-loop
-unfolding shifts shift
-four-shifts-requires-2 c κs = values-at (shifts 4) 16
+take-in-requires : tie.Need-take-in-requires Inv-loop μ-loop
+take-in-requires c κs = search needs
 
 add-i : tie.Need-add-i Inv-loop μ-loop
 add-i c = search needs
@@ -63,11 +49,8 @@ loop-less : tie.Need-loop-less Inv-loop μ-loop
 loop-less c = search needs
 
 loop-again : tie.Need-loop-again Inv-loop μ-loop
-loop-again c = (
-  search needs,
-  one-less _ _ _ _ _ _ (c .before .before .before .before .before .loop-test .taken)
-      (c .before .before .before .before .before .before .loop .inv .1) (c .before .four-shifts .ensures) (c .four-shifts2 .ensures),
-)
+loop-again c =
+    (search needs, one-less _ _ _ _ _ (c .before .before .loop-test .taken) (c .before .before .before .loop .inv .1) (c .take-in .ensures))
 
 returns : tie.Need-returns Inv-loop μ-loop
 returns c = none-left _ _ _ _ (c .loop-test .left) (c .before .loop .inv .1)
@@ -79,10 +62,8 @@ crc16-spec =
     Inv-loop
     μ-loop
     loop-holds
-    shared-slice-read-four-shifts
-    cast-four-shifts
-    four-shifts-requires
-    four-shifts-requires-2
+    shared-slice-read-take-in
+    take-in-requires
     add-i
     loop-less
     loop-again
