@@ -132,7 +132,7 @@ fn of_parts(minus: bool, decimals: usize, whole: &[u8], fraction: &[u8]) -> Read
     Reading::Value(sign::make(minus, size))
 }
 
-// What the characters after the sign say. Each of this and `read` has one call, so that the reading is compiled once.
+// What the characters after the sign say. This and `read` call what comes next in one place, so that it is compiled once.
 fn of_unsigned(minus: bool, decimals: usize, chars: &[u8]) -> Reading
     requires { ⌜ (decimals ≤ mostDecimals) × (length (now chars) ≤ 6) ⌝ }
     ensures { λ r. ⌜ r ≡ ofUnsigned minus decimals (now (chars .entry)) ⌝ }
