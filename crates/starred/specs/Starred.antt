@@ -12,7 +12,7 @@ use Rattle.items.specs.declared.Found.{Found}
 use Rattle.items.specs.declared.Found.the-variants.{At, Nothing}
 use Rattle.items.specs.ItemList.{items, found}
 use Rattle.items.specs.Table.{none, startValues, entry}
-use Rattle.line.specs.Line.{STX, ETX, EOT, sent, bcc}
+use Rattle.line.specs.Line.{STX, ETX, EOT, ACK, sent, bcc}
 use Rattle.text.specs.Numbers.{doesNotFit, noNumber}
 use Rattle.text.specs.Writing.{written}
 use Rattle.text.specs.declared.Written.{Written}
@@ -129,8 +129,9 @@ placeOf identifier = placeFound (found (getD identifier 0 0) (getD identifier 1 
 unfoldable pub unlessNumber : ℕ → Result → Result
 unlessNumber n r = cond (eqb n none) r (number n)
 
+-- the item has its value once the block is answered by ACK
 unfoldable pub ofBlock : ℕ → Outcome → Result
-ofBlock i o = unlessNumber (o .step .number) (value (entry (o .table) i))
+ofBlock i o = cond (eqb (getD (o .step .reply) 0 0) ACK) (value (entry (o .table) i)) (number (o .step .number))
 
 unfoldable pub ofWritten : Written → Result
 ofWritten w = unlessNumber (w .number) (text (w .chars))

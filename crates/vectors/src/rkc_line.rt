@@ -35,9 +35,10 @@ fn hear(link: Link, table: &mut [i32], bytes: &[u8], shown: bool) -> Stepped {
     last
 }
 
-// What comes of a block: the number given back, and the value that its item then has.
+// What comes of a block: the number given back, whether anything was answered, and the value that its item then has.
 struct Brought {
     number: u8,
+    answered: bool,
     value: i32,
 }
 
@@ -53,6 +54,7 @@ fn bring(place: usize, chars: &[u8]) -> Brought {
     let judged = hear(told.link, &mut table, &end, false);
     Brought {
         number: judged.number,
+        answered: judged.len == 1,
         value: items::answer(&table, place),
     }
 }
@@ -64,7 +66,8 @@ pub fn read(place: usize, chars: &[u8]) {
     show::quoted(chars);
     show::arrow();
     let brought = bring(place, chars);
-    if brought.number == 0 {
+    // A block that was passed over in silence gives 0 too, and brings nothing.
+    if brought.number == 0 && brought.answered {
         show::value(brought.value);
     } else {
         show::number(brought.number);
