@@ -150,51 +150,42 @@ fn block(phase: u8, count: u8, bcc: u8, mark: bool, kept: [u8; 8]) -> Link
     }
 }
 
-// The number that eight bytes make, the low one first.
-fn from_low(a: u8, b: u8, c: u8, d: u8, e: u8, f: u8, g: u8, h: u8) -> u64
-    ensures { λ r. ⌜ r ≡ fromLow (a ∷ b ∷ c ∷ d ∷ e ∷ f ∷ g ∷ h ∷ []) ⌝ }
+// The number that four bytes make, the low one first.
+fn from_low(a: u8, b: u8, c: u8, d: u8) -> u32
+    ensures { λ r. ⌜ r ≡ fromLow (a ∷ b ∷ c ∷ d ∷ []) ⌝ }
 {
-    a as u64
-        + 256
-            * (b as u64
-                + 256
-                    * (c as u64
-                        + 256
-                            * (d as u64
-                                + 256
-                                    * (e as u64
-                                        + 256 * (f as u64 + 256 * (g as u64 + 256 * (h as u64)))))))
+    a as u32 + 256 * (b as u32 + 256 * (c as u32 + 256 * (d as u32)))
 }
 
-// The same of an array.
+// The number that eight bytes make.
 fn number_of(kept: [u8; 8]) -> u64
     ensures { λ r. ⌜ r ≡ fromLow kept ⌝ }
 {
-    from_low(
-        kept[0],
-        kept[1],
-        kept[2],
-        kept[3],
-        kept[4],
-        kept[5],
-        kept[6],
-        kept[7],
-    )
+    let low = from_low(kept[0], kept[1], kept[2], kept[3]);
+    let high = from_low(kept[4], kept[5], kept[6], kept[7]);
+    low as u64 + 0x1_0000_0000 * (high as u64)
 }
 
 // The eight bytes of a number, the low one first.
 fn low_first(n: u64) -> [u8; 8]
     ensures { λ r. ⌜ r ≡ lowFirst 8 n ⌝ }
 {
+    let n1 = n / 256;
+    let n2 = n1 / 256;
+    let n3 = n2 / 256;
+    let n4 = n3 / 256;
+    let n5 = n4 / 256;
+    let n6 = n5 / 256;
+    let n7 = n6 / 256;
     [
         (n % 256) as u8,
-        (n / 256 % 256) as u8,
-        (n / 256 / 256 % 256) as u8,
-        (n / 256 / 256 / 256 % 256) as u8,
-        (n / 256 / 256 / 256 / 256 % 256) as u8,
-        (n / 256 / 256 / 256 / 256 / 256 % 256) as u8,
-        (n / 256 / 256 / 256 / 256 / 256 / 256 % 256) as u8,
-        (n / 256 / 256 / 256 / 256 / 256 / 256 / 256 % 256) as u8,
+        (n1 % 256) as u8,
+        (n2 % 256) as u8,
+        (n3 % 256) as u8,
+        (n4 % 256) as u8,
+        (n5 % 256) as u8,
+        (n6 % 256) as u8,
+        (n7 % 256) as u8,
     ]
 }
 
