@@ -168,7 +168,8 @@ uint32_t vb_byte(uint8_t *state, size_t sn, int32_t *table, size_t tn, uint8_t *
 
 /* To be called every now and then while no byte comes, so that a poll ends where the host falls
  * silent: once three seconds have gone by since the last item was sent, EOT is the reply and the
- * link rests (44). In any other phase it does nothing but give 0.
+ * link rests (44). Before that, and in any other phase, it gives 0 and sends nothing; the state
+ * keeps what its phase uses, and all else in it comes out as 0.
  *
  * now counts as in vb_byte and may have gone round since. A full turn takes 49 days, and a silence
  * that long can't be told from none.

@@ -60,7 +60,7 @@ startTable t = cond (eqb (length t) items) startValues t
 abbrev pub entry : List ℤ → ℕ → ℤ
 entry t i = getD t i (pos 0)
 
--- the places of the items that the alarm states are worked out from
+-- the places of the alarm states, AA and AB, and of the items that they are worked out from
 abbrev pub M1 : ℕ
 M1 = 0
 

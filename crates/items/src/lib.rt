@@ -15,7 +15,7 @@ pub enum Found {
 
 pub const ITEMS: usize = 12;
 
-// The places of the items that the alarm states are worked out from.
+// The places of the alarm states, AA and AB, and of the items that they are worked out from.
 const M1: usize = 0;
 
 const AA: usize = 1;

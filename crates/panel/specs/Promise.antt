@@ -26,7 +26,7 @@ pub record ReadText (reading : Reading) (r : ℕ) (value : ℤ) : Type 0 where
   pub given : r ≡ numberOf reading
   pub left : value ≡ valueOf reading
 
--- the longest reply that a line has
+-- a bound that no reply of either line is over, so that its length has room in a result
 abbrev pub longestReply : ℕ
 longestReply = 256
 

@@ -1,4 +1,5 @@
--- The phases of the RKC link, and the numbers that go with EOT.
+-- The phases of the RKC link, and numbers that go with EOT: 41, 43 and 45 are given by the decision, 42 by rkc once it has looked
+-- the identifier up. 44 and 46 stand there.
 use Prim.Native.Nat.{ℕ}
 
 abbrev pub rest : ℕ
@@ -44,7 +45,7 @@ notBelonging = 41
 abbrev pub unknownPolled : ℕ
 unknownPolled = 42
 
--- a byte that is neither ACK nor NAK while waiting
+-- a byte that is neither ACK, NAK nor EOT while waiting
 abbrev pub notAwaited : ℕ
 notAwaited = 43
 

@@ -32,7 +32,7 @@ pub const BCC_DUE: u8 = 8;
 
 pub const ANSWERED: u8 = 9;
 
-// ---- the numbers that go with EOT
+// ---- numbers that go with EOT: 42 is given by rkc, once it has looked the identifier up; 44 and 46 stand there
 
 // a byte that doesn't belong into a poll
 pub const NOT_BELONGING: u8 = 41;
@@ -40,7 +40,7 @@ pub const NOT_BELONGING: u8 = 41;
 // the identifier of a poll is unknown
 pub const UNKNOWN_POLLED: u8 = 42;
 
-// a byte that is neither ACK nor NAK while waiting
+// a byte that is neither ACK, NAK nor EOT while waiting
 pub const NOT_AWAITED: u8 = 43;
 
 // the list has no next item: an end and no fault

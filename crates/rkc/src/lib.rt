@@ -189,7 +189,7 @@ fn low_first(n: u64) -> [u8; 8]
     ]
 }
 
-// The least number of more bytes than these.
+// The first number that has not room in so many bytes.
 fn past_bytes(count: u8) -> u64
     requires { ⌜ count < 8 ⌝ }
     ensures { λ r. ⌜ r ≡ 256 ^ count ⌝ }
@@ -197,7 +197,8 @@ fn past_bytes(count: u8) -> u64
     1 << (8 * (count as u64))
 }
 
-// The kept characters up to the count, and 0 past it.
+// The kept characters up to the count, and 0 past it. All eight make one number, which one remainder cuts at the count:
+// that takes fewer instructions than a test of the count at each place, and it is done for each byte of a text.
 fn kept_up_to(kept: [u8; 8], count: u8) -> [u8; 8]
     ensures { λ r. ⌜ r ≡ upTo count kept ⌝ }
 {

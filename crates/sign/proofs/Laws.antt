@@ -1,5 +1,5 @@
--- What the crates above use of signed numbers: what the machine reads back, what a comparison with zero tells of the sign and
--- the size, and how large a number between two limits is.
+-- What the crates above use of signed numbers: what the machine reads back, and what a comparison with zero tells of the sign
+-- and the size.
 -- Assumes nothing.
 use mathlib.Core.Path.{_≡_, refl, ap, ap₂, subst, _∙_}
 use mathlib.Core.Bool.{Bool, true, false}
