@@ -189,7 +189,7 @@ fn low_first(n: u64) -> [u8; 8]
     ]
 }
 
-// The first number that has not room in so many bytes.
+// The first number that so many bytes have no room for.
 fn past_bytes(count: u8) -> u64
     requires { ⌜ count < 8 ⌝ }
     ensures { λ r. ⌜ r ≡ 256 ^ count ⌝ }
