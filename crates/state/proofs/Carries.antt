@@ -1,0 +1,161 @@
+-- Nothing is lost between two calls: the state that a call hands back is the one that the next call finds in its bytes.
+-- Assumes nothing.
+use mathlib.Core.Path.{_≡_, refl, ap, _∙_}
+use mathlib.Core.Bool.{Bool, true, false, cond, _&&_}
+use mathlib.Core.List.{List, [], _∷_}
+use Prim.Native.Nat.{ℕ, zero, suc, _-_, _^_, _<_}
+use native.Mathlib.Omega.{arith}
+use borrow.Author.Tests.{eqb-true}
+use lib.Dec.{eqb, leb}
+use lib.IntN.{ℤ}
+use lib.ListN.{length, getD, length-set}
+use lib.Seq.{length-slice}
+use Rattle.items.specs.declared.Found.{Found}
+use Rattle.items.specs.declared.Found.the-variants.{At, Nothing}
+use Rattle.items.specs.ItemList.{itemAt, found}
+use Rattle.items.specs.Table.{none, answered}
+use Rattle.text.specs.Writing.{written}
+use Rattle.phases.specs.Phases.{oneCharacter, twoCharacters, waiting}
+use Rattle.phases.specs.declared.Act.{Act}
+use Rattle.phases.specs.declared.Act.the-variants.{Go, First, Both, More, Ended, Quit, Poll, Send, Judge}
+use Rattle.block.specs.Block.{verdict}
+use Rattle.block.specs.declared.Verdict.{Verdict}
+use Rattle.block.specs.declared.Verdict.the-variants.{Store, Refuse}
+use Rattle.rkc.specs.declared.Link.{Link}
+use Rattle.rkc.specs.State.{inPhase, holdingOne, holdingTwo, waitingOn, block, upTo, inBlock, used, withMore, withEnd}
+use Rattle.rkc.specs.Outcome.{Step, Outcome, itemSent, polled, judged, performed, byteFault, received}
+use Rattle.rkc.specs.Outcome.{elapsed, patience, idleFault, idled}
+use Rattle.state.specs.State.{stateBytes, fields, unknownPhase, unpacked, packed}
+use Rattle.state.proofs.Parts.{part-elements}
+use Rattle.state.proofs.Packing.{unpacked-packed}
+
+-- a state whose bytes hold all of it: eight kept characters, and a time of four bytes
+pub record Whole (l : Link) : Type 0 where
+  pub eight : length (l .kept) ≡ 8
+  pub small : l .time < 2 ^ 32
+
+-- the state that a step hands back is whole
+abbrev LeavesWhole : Step → Type 0
+LeavesWhole s = Whole (s .link)
+
+-- what holds of both answers holds of the one that a test picks
+either : {A : Type 0} (P : A → Type 0) (test : Bool) {x y : A} → P x → P y → P (cond test x y)
+either P true p q = p
+either P false p q = q
+
+-- ---- each kind of state
+
+in-phase-whole : (phase : ℕ) → Whole (inPhase phase)
+in-phase-whole phase = record { eight = refl; small = omega arith }
+
+one-whole : (a : ℕ) → Whole (holdingOne a)
+one-whole a = record { eight = refl; small = omega arith }
+
+two-whole : (a b : ℕ) → Whole (holdingTwo a b)
+two-whole a b = record { eight = refl; small = omega arith }
+
+waiting-whole : (item time : ℕ) → time < 2 ^ 32 → Whole (waitingOn item time)
+waiting-whole item time h = record { eight = refl; small = h }
+
+block-whole : (phase count sum : ℕ) (mark : Bool) (kept : List ℕ) → length kept ≡ 8 → Whole (block phase count sum mark kept)
+block-whole phase count sum mark kept e = record { eight = e; small = omega arith }
+
+-- what is past the count keeps its places
+up-to-length : (n : ℕ) (l : List ℕ) → length (upTo n l) ≡ length l
+up-to-length n [] = refl
+up-to-length zero (c ∷ cs) = ap suc (up-to-length zero cs)
+up-to-length (suc n) (c ∷ cs) = ap suc (up-to-length n cs)
+
+module _ (l : Link) (w : Whole l) where
+  used-whole : Whole (used l)
+  unfolding used
+  used-whole =
+      either Whole (eqb (l .phase) oneCharacter) (one-whole _)
+      (either Whole (eqb (l .phase) twoCharacters) (two-whole _ _)
+      (either Whole (eqb (l .phase) waiting) (waiting-whole _ _ (w .small))
+      (either Whole (inBlock (l .phase)) (block-whole _ _ _ _ _ (up-to-length (l .count) (l .kept) ∙ w .eight))
+      (in-phase-whole _))))
+
+  more-whole : (c : ℕ) → Whole (withMore l c)
+  unfolding withMore
+  more-whole c = block-whole _ _ _ _ _ (length-set (l .kept) (l .count) _ ∙ w .eight)
+
+  end-whole : Whole (withEnd l)
+  unfolding withEnd
+  end-whole = block-whole _ _ _ _ _ (w .eight)
+
+-- ---- each act, at a time of four bytes
+
+module _ (structure time : ℕ) (t : List ℤ) (h : time < 2 ^ 32) where
+  item-whole : (i : ℕ) → LeavesWhole (itemSent structure time t i)
+  unfolding itemSent
+  item-whole i =
+      either LeavesWhole (eqb (written 6 (itemAt i .decimals) (answered t i) .number) none) (waiting-whole _ time h) (in-phase-whole _)
+
+  polled-whole : (f : Found) → LeavesWhole (polled structure time t f)
+  polled-whole (At i) = item-whole i
+  polled-whole Nothing = in-phase-whole _
+
+  judged-whole : (v : Verdict) → LeavesWhole (judged structure t v .step)
+  judged-whole (Store i v) = in-phase-whole _
+  judged-whole (Refuse n) = in-phase-whole _
+
+  performed-whole : (l : Link) (x : Act) → Whole l → LeavesWhole (performed l t structure time x .step)
+  unfolding performed
+  performed-whole l (Go phase) w = in-phase-whole phase
+  performed-whole l (First a) w = one-whole a
+  performed-whole l (Both a b) w = two-whole a b
+  performed-whole l (More c) w = more-whole l w c
+  performed-whole l Ended w = end-whole l w
+  performed-whole l (Quit number) w = in-phase-whole _
+  performed-whole l (Poll a b) w = polled-whole (found a b)
+  performed-whole l (Send item) w = item-whole (item - 1)
+  performed-whole l (Judge c) w = judged-whole (verdict (l .mark) (l .bcc) (l .count) (l .kept) c)
+
+-- ---- a call on a whole state leaves a whole one
+
+module _ (l : Link) (w : Whole l) where
+  pub whole-after-byte : (t : List ℤ) (buffer address structure time byte : ℕ) → time < 2 ^ 32
+      → Whole (received l t buffer address structure time byte .step .link)
+  unfolding received
+  whole-after-byte t buffer address structure time byte h =
+      either (λ (o : Outcome). LeavesWhole (o .step)) (eqb (byteFault l t buffer address structure) none)
+      (performed-whole structure time t h (used l) _ (used-whole l w)) w
+
+  pub whole-after-idle : (buffer structure time : ℕ) → Whole (idled l buffer structure time .link)
+  unfolding idled
+  whole-after-idle buffer structure time =
+      either LeavesWhole (eqb (idleFault l buffer structure) none)
+      (either LeavesWhole (eqb (used l .phase) waiting && leb patience (elapsed time (used l .time))) (in-phase-whole _) (used-whole l w)) w
+
+-- ---- from one call to the next
+
+module _ (s : List ℕ) (bytes : (i : ℕ) → getD s i 0 < 256) where
+  -- what bytes hold is whole: bytes of another length hold an unknown phase
+  pub held-whole : Whole (unpacked s)
+  unfolding unpacked
+  held-whole = by (eqb (length s) stateBytes) refl
+    where
+      by : (b : Bool) → eqb (length s) stateBytes ≡ b → Whole (cond b (fields s) (inPhase unknownPhase))
+      by true e =
+          let full : length s ≡ stateBytes = eqb-true _ _ e in
+          record {
+            eight = length-slice 12 20 s (omega arith);
+            small = rw (← part-elements s 8 4 (omega arith)) (omega (arith, bytes 8, bytes 9, bytes 10, bytes 11));
+          }
+      by false e = in-phase-whole _
+
+  -- of one received byte
+  pub byte-carries : (t : List ℤ) (buffer address structure time byte : ℕ) → time < 2 ^ 32
+      → unpacked (packed (received (unpacked s) t buffer address structure time byte .step .link))
+      ≡ received (unpacked s) t buffer address structure time byte .step .link
+  byte-carries t buffer address structure time byte h =
+      let w = whole-after-byte (unpacked s) held-whole t buffer address structure time byte h in
+      unpacked-packed _ (w .eight) (w .small)
+
+  -- of an idle call, which leaves no time but the one it found
+  pub idle-carries : (buffer structure time : ℕ)
+      → unpacked (packed (idled (unpacked s) buffer structure time .link)) ≡ idled (unpacked s) buffer structure time .link
+  idle-carries buffer structure time =
+      let w = whole-after-idle (unpacked s) held-whole buffer structure time in
+      unpacked-packed _ (w .eight) (w .small)
