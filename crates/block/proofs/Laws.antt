@@ -9,13 +9,14 @@ use borrow.Author.Tests.{not-false, leb-true, le-ltb}
 use lib.Dec.{eqb, leb, ltb}
 use lib.IntN.{ℤ}
 use lib.ListN.{length, getD, take, drop}
+use Rattle.sign.proofs.Choice.{both}
 use Rattle.line.specs.Line.{isLineError}
 use Rattle.items.specs.ItemList.{items, itemAt, found}
 use Rattle.items.specs.Table.{inRange}
 use Rattle.items.specs.declared.Found.{Found}
 use Rattle.items.specs.declared.Found.the-variants.{At, Nothing}
 use Rattle.items.proofs.Laws.{found-place}
-use Rattle.items.proofs.Lists.{both, passes-at}
+use Rattle.items.proofs.Lists.{passes-at}
 use Rattle.text.specs.Numbers.{mostDecimals}
 use Rattle.text.specs.Characters.{minusSign}
 use Rattle.text.specs.Reading.{allDigits, pointAt, ofUnsigned, ofText, reading}

@@ -1,7 +1,7 @@
 -- A frame is right exactly where it is the frame of its body, and the CRC of a right frame, its own CRC taken in too, is 0.
 -- Assumes nothing.
 use mathlib.Core.Path.{_≡_, refl, sym, ap, ap₂, _∙_}
-use mathlib.Core.Bool.{Bool, true, false, _&&_}
+use mathlib.Core.Bool.{true, _&&_}
 use mathlib.Core.List.{List, [], _∷_, _++_}
 use Prim.Native.Nat.{ℕ, suc, _+_, _-_, _*_, _/_, _%_, _^_, _≤_, _<_}
 use native.Mathlib.Omega.{arith}
@@ -10,6 +10,7 @@ use lib.Bits.{bitXor, xor-lt, xor-self}
 use lib.Dec.{eqb, leb, lit<}
 use lib.ListN.{length, getD, drop, length-append, take-append-drop}
 use lib.Seq.{drop-cons, drop-length, take-at, getD-at, getD-append-add}
+use Rattle.sign.proofs.Choice.{both}
 use Rattle.crc.specs.Crc.{Bytes, start, shifts, crcFrom, crc16Of, lowFirst, framed, bodyOf, crcIn, isRight}
 use Rattle.crc.proofs.Bytes.{low-first-bytes, rest-bytes, take-bytes}
 use Rattle.crc.proofs.Shifts.{shifts-small, shifts-zero}
@@ -44,10 +45,6 @@ framed-right body =
     let high : getD f (length f - 1) 0 ≡ crc / 256 = ap (λ (k : ℕ). getD f k 0) e₁ ∙ getD-append-add body (lowFirst crc) 1 0 in
     ap₂ _&&_ (le-leb 2 (length f) (omega arith))
     (eq-eqb (crc16Of (bodyOf f)) (crcIn f) (ap crc16Of (take-at body (lowFirst crc) (length f - 2) e) ∙ omega arith))
-
-both : (a b : Bool) → a && b ≡ true → (a ≡ true) × (b ≡ true)
-both true b e = (refl, e)
-both false b e = let z : _≡_ {A = ℕ} 0 1 = cc in absurd (omega arith)
 
 -- what a right frame has met
 right-parts : (f : List ℕ) → isRight f ≡ true → (2 ≤ length f) × (crc16Of (bodyOf f) ≡ crcIn f)

@@ -14,12 +14,12 @@ use lib.ListN.{getD, set, length, length-set}
 use lib.Seq.{getD-set-other}
 use lib.Signed.{leZ}
 use Rattle.sign.proofs.Laws.{contrary}
+use Rattle.sign.proofs.Choice.{both}
 use Rattle.items.specs.ItemList.{Item}
 use Rattle.items.specs.declared.Found.the-variants.{At}
 use Rattle.items.specs.ItemList.{items, itemList, noItem, itemAt, firstFrom, named, registered, found, foundByRegister}
 use Rattle.items.specs.Table.{none, fromLowToHigh, inRange, allInRange, tableFault, goodTable, startValues, entry, M1, AA, AB, A1, A2, alarm, answered, stored, noSuchItem, valueOutside, putNumber, putTable}
 use Rattle.items.specs.Promise.{Lent}
-use Rattle.items.proofs.Lists.{both}
 
 -- ---- a good table
 

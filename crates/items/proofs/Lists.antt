@@ -1,7 +1,7 @@
 -- Laws on lists and tests that the proofs of this crate share: reading at a place, a table by what is left of it, and a test
 -- at each number below a bound.
 -- Assumes nothing.
-use mathlib.Core.Path.{_≡_, refl, sym, ap, _∙_}
+use mathlib.Core.Path.{_≡_, refl, ap, _∙_}
 use mathlib.Core.Bool.{Bool, true, false, cond, _&&_}
 use mathlib.Core.List.{List, [], _∷_, _++_, map, append-nil}
 use Prim.Native.Nat.{ℕ, zero, suc, _+_, _^_, _<_, _≤_}
@@ -16,15 +16,11 @@ use lib.Seq.{drop-cons, sets, sets-eq}
 use lib.Signed.{leZ, mag}
 use mir.Syntax.{w32}
 use mir.Val.{toZ, ofZ}
-use Rattle.sign.proofs.Laws.{contrary, same}
+use Rattle.sign.proofs.Laws.{same}
+use Rattle.sign.proofs.Choice.{both}
 use Rattle.items.specs.declared.Found.the-variants.{At}
 use Rattle.items.specs.ItemList.{Item, items, itemList, noItem, itemAt, firstFrom}
 use Rattle.items.specs.Table.{allInRange, entry}
-
--- both tests held
-pub both : (a b : Bool) → (a && b) ≡ true → (a ≡ true) × (b ≡ true)
-both true b e = (refl, e)
-both false b e = contrary (sym e)
 
 -- what is read at a place inside a list does not depend on what stands past its end
 pub read-inside : {A : Type 0} (l : List A) (i : ℕ) (d e : A) → i < length l → getD l i d ≡ getD l i e

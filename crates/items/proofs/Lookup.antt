@@ -8,11 +8,12 @@ use native.Mathlib.Omega.{arith}
 use borrow.Author.Tests.{eqb-true, ltb-true, ne-eqb}
 use lib.Dec.{eqb, ltb}
 use lib.ListN.{getD}
+use Rattle.sign.proofs.Choice.{both}
 use Rattle.items.specs.ItemList.{Item}
 use Rattle.items.specs.declared.Found.{Found}
 use Rattle.items.specs.declared.Found.the-variants.{At, Nothing}
 use Rattle.items.specs.ItemList.{itemList, firstFrom, registered, foundByRegister}
-use Rattle.items.proofs.Lists.{both, passes-at}
+use Rattle.items.proofs.Lists.{passes-at}
 
 -- the code's constant: the item's number at each register of the map, 0 where none has it
 unfoldable pub numberAt : List ℕ

@@ -9,8 +9,8 @@ use borrow.Author.Tests.{eqb-true, eq-eqb, ne-eqb, leb-true, le-leb, lt-leb}
 use lib.Dec.{eqb, leb}
 use lib.IntN.{ℤ}
 use lib.ListN.{length}
+use Rattle.sign.proofs.Choice.{both}
 use Rattle.items.specs.Table.{none, inRange}
-use Rattle.items.proofs.Lists.{both}
 use Rattle.modbus.specs.declared.Answered.{Answered}
 use Rattle.modbus.specs.Register.{ofRegister}
 use Rattle.modbus.specs.Outcome.{Outcome, wrongRegister, wrongData, exceptionReply, unlessFault}

@@ -9,12 +9,12 @@ use borrow.Author.Tests.{eq-eqb, ne-eqb, ltb-true, lt-ltb, leb-true, le-leb}
 use lib.Dec.{eqb, ltb, leb, lit≤, lit<}
 use lib.IntN.{ℤ}
 use lib.ListN.{getD, set}
+use Rattle.sign.proofs.Choice.{both}
 use Rattle.items.specs.declared.Found.{Found}
 use Rattle.items.specs.declared.Found.the-variants.{At, Nothing}
 use Rattle.items.specs.ItemList.{items, itemAt, found}
 use Rattle.items.specs.Table as table
 use Rattle.items.specs.Table.{none}
-use Rattle.items.proofs.Lists.{both}
 use Rattle.items.proofs.Laws.{found-place}
 use Rattle.line.specs.Line.{ETX, topBit, lowSeven, sent, within}
 use Rattle.line.proofs.Laws.{within-in, within-true, low-seven-small, taken-small}

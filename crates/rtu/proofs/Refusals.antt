@@ -9,8 +9,8 @@ use borrow.Author.Tests.{eqb-true, eqb-false, eq-eqb, ne-eqb, leb-true, le-leb, 
 use lib.Dec.{eqb, leb}
 use lib.IntN.{ℤ}
 use lib.ListN.{length}
+use Rattle.sign.proofs.Choice.{both}
 use Rattle.items.specs.Table.{none, tableFault}
-use Rattle.items.proofs.Lists.{both}
 use Rattle.crc.specs.Crc.{isRight}
 use Rattle.modbus.specs.Outcome.{shortBuffer}
 use Rattle.modbus.specs.Rules.{must, bufferLength}

@@ -1,2 +1,3 @@
 pub mod Laws
+pub mod Choice
 pub mod Single

@@ -10,16 +10,12 @@ use borrow.Author.Tests.{le-leb, leb-true}
 use lib.Arith.{mod-mul}
 use lib.Dec.{leb}
 use lib.ListN.{length, length-append}
-use Rattle.sign.proofs.Laws.{contrary}
+use Rattle.sign.proofs.Choice.{both}
 use Rattle.text.specs.Characters.{zeroDigit, nineDigit, isDigit}
 use Rattle.text.specs.Reading.{allDigits, numberFrom}
 use Rattle.text.specs.Writing.{digits}
 
 -- ---- tests
-
-pub both : (a b : Bool) → (a && b) ≡ true → (a ≡ true) × (b ≡ true)
-both true b e = (refl, e)
-both false b e = contrary (sym e)
 
 pub digit-range : (c : ℕ) → isDigit c ≡ true → (zeroDigit ≤ c) × (c ≤ nineDigit)
 digit-range c e = let p = both (leb zeroDigit c) (leb c nineDigit) e in (leb-true zeroDigit c (p .0), leb-true c nineDigit (p .1))

@@ -14,12 +14,13 @@ use lib.Seq.{take-at, take-length}
 use lib.Signed.{ltZ}
 use Rattle.sign.specs.Sign.{signed}
 use Rattle.sign.proofs.Laws.{by-sign}
+use Rattle.sign.proofs.Choice.{both}
 use Rattle.text.specs.Characters.{minusSign, point, isDigit}
 use Rattle.text.specs.Numbers.{mostDecimals, none}
 use Rattle.text.specs.Reading.{allDigits, numberFrom, pointAt, ofParts, ofUnsigned, ofText, reading}
 use Rattle.text.specs.Writing.{digits, pointed, room, textOf, text, fits, written}
 use Rattle.text.specs.declared.Reading.the-variants.{Value}
-use Rattle.text.proofs.Numerals.{both, digit-range, digits-all, digits-length, number-digits, parts-digits}
+use Rattle.text.proofs.Numerals.{digit-range, digits-all, digits-length, number-digits, parts-digits}
 use Rattle.text.proofs.Steps.{without-minus}
 use Rattle.text.proofs.Texts.{enough-room, fitting, text-length}
 

@@ -10,12 +10,13 @@ use lib.Dec.{ltb}
 use lib.IntN.{ℤ, pos, natAbs}
 use lib.ListN.{length, getD, take, drop, length-append, length-take, length-drop, length-replicate, take-append-drop, replicate}
 use lib.Signed.{ltZ}
+use Rattle.sign.proofs.Choice.{both}
 use Rattle.text.specs.Characters.{minusSign, point, isDigit}
 use Rattle.text.specs.Numbers.{mostDecimals, none, doesNotFit, tooManyDecimals}
 use Rattle.text.specs.Reading.{allDigits}
 use Rattle.text.specs.Writing.{digits, pointed, signText, points, room, fits, textOf, text, accepted, refusal, written}
 use Rattle.text.specs.declared.Written.{Written}
-use Rattle.text.proofs.Numerals.{both, digit-range, digits-all, digits-length, parts-digits}
+use Rattle.text.proofs.Numerals.{digit-range, digits-all, digits-length, parts-digits}
 
 -- ---- room
 
