@@ -2,14 +2,14 @@
 -- and a block is refused only by the numbers 11 to 18.
 -- Assumes nothing.
 use mathlib.Core.Path.{_≡_, refl, subst}
-use mathlib.Core.Bool.{Bool, true, false, cond, not, _&&_, _||_}
+use mathlib.Core.Bool.{Bool, true, false, not, _&&_, _||_}
 use mathlib.Core.List.{List, [], _∷_, _++_}
 use Prim.Native.Nat.{ℕ, suc, _<_, _≤_}
 use borrow.Author.Tests.{not-false, leb-true, le-ltb}
 use lib.Dec.{eqb, leb, ltb}
 use lib.IntN.{ℤ}
 use lib.ListN.{length, getD, take, drop}
-use Rattle.sign.proofs.Choice.{both}
+use Rattle.sign.proofs.Choice.{both, chosen}
 use Rattle.line.specs.Line.{isLineError}
 use Rattle.items.specs.ItemList.{items, itemAt, found}
 use Rattle.items.specs.Table.{inRange}
@@ -59,24 +59,21 @@ few-decimals i h = leb-true _ _ (passes-at (λ (k : ℕ). leb (itemAt k .decimal
 
 -- so what is read for an item is a value, too long or no number
 module _ (P : Reading → Type 0) (value : (v : ℤ) → P (Value v)) (long : P TooLong) (none : P NoNumber) where
-  either : (b : Bool) (x y : Reading) → P x → P y → P (cond b x y)
-  either true x y p q = p
-  either false x y p q = q
-
   of-unsigned : (minus : Bool) (d : ℕ) (cs : List ℕ) → P (ofUnsigned minus d cs)
   of-unsigned minus d cs =
       let digits = take (pointAt cs) cs ++ drop (suc (pointAt cs)) cs in
-      either (allDigits digits && leb 1 (length digits)) _ _ (value _) none
+      chosen P (allDigits digits && leb 1 (length digits)) (λ _. value _) (λ _. none)
 
   of-text : (d : ℕ) (cs : List ℕ) → P (ofText d cs)
   of-text d [] = none
-  of-text d (c ∷ cs) = either (eqb c minusSign) _ _ (of-unsigned true d cs) (of-unsigned false d (c ∷ cs))
+  of-text d (c ∷ cs) = chosen P (eqb c minusSign) (λ _. of-unsigned true d cs) (λ _. of-unsigned false d (c ∷ cs))
 
   of-data : (d count : ℕ) (kept : List ℕ) → d ≤ mostDecimals → P (readData d count kept)
   unfolding reading
   of-data d count kept few =
       let cs = dataCharacters count kept in
-      either (ltb mostKept count) _ _ long (rw (le-ltb mostDecimals d few) (either (ltb width (length cs)) _ _ long (of-text d cs)))
+      chosen P (ltb mostKept count) (λ _. long)
+      (λ _. rw (le-ltb mostDecimals d few) (chosen P (ltb width (length cs)) (λ _. long) (λ _. of-text d cs)))
 
 sound-item : (i count : ℕ) (kept : List ℕ) → i < items → Sound (forItem i count kept)
 unfolding numbered

@@ -13,6 +13,7 @@ use lib.Dec.{leb, lit<}
 use lib.ListN.{length, getD, drop}
 use lib.Seq.{drop-cons}
 use Rattle.sign.proofs.Laws.{contrary}
+use Rattle.sign.proofs.Choice.{chosen}
 use Rattle.line.specs.Line.{topBit, lowSeven, bccFrom, within, printable}
 
 pub within-in : (a b x : ℕ) → a ≤ x → x ≤ b → within a b x ≡ true
@@ -22,11 +23,7 @@ pub within-below : (a b x : ℕ) → x < a → within a b x ≡ false
 within-below a b x low = simp (lt-leb a x low)
 
 pub within-above : (a b x : ℕ) → b < x → within a b x ≡ false
-within-above a b x high = simp (lt-leb x b high) (either (leb a x))
-  where
-    either : (t : Bool) → cond t false false ≡ false
-    either true = refl
-    either false = refl
+within-above a b x high = simp (lt-leb x b high) (chosen (λ (t : Bool). t ≡ false) (leb a x) (λ _. refl) (λ _. refl))
 
 -- what a range holds is between its ends
 pub within-true : (a b x : ℕ) → within a b x ≡ true → (a ≤ x) × (x ≤ b)

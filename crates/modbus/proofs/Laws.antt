@@ -2,7 +2,7 @@
 -- message changes a read-only item, and a good table stays good.
 -- Assumes nothing.
 use mathlib.Core.Path.{_≡_, refl}
-use mathlib.Core.Bool.{Bool, true, false, cond}
+use mathlib.Core.Bool.{true, false}
 use mathlib.Core.List.{List, []}
 use Prim.Native.Nat.{ℕ, _≤_, _<_}
 use native.Mathlib.Omega.{arith}
@@ -10,6 +10,7 @@ use borrow.Author.Tests.{eqb-true, eqb-false}
 use lib.Dec.{eqb}
 use lib.IntN.{ℤ}
 use lib.ListN.{length}
+use Rattle.sign.proofs.Choice.{chosen}
 use Rattle.items.specs.ItemList.{itemAt}
 use Rattle.items.specs.Table.{none, goodTable, entry}
 use Rattle.items.proofs.Laws.{good-stored, stored-read-only}
@@ -20,17 +21,12 @@ use Rattle.modbus.proofs.Faults.{Numbered, read-numbered, write-numbere
 
 -- ---- by cases
 
--- what holds of an outcome in either case
-pub by-test : (P : Outcome → Type 0) (b : Bool) {o p : Outcome} → (b ≡ true → P o) → (b ≡ false → P p) → P (cond b o p)
-by-test P true h k = h refl
-by-test P false h k = k refl
-
 -- what holds of every exception, and of the outcome where no fault is met
 by-fault : (P : Outcome → Type 0) (fault : ℕ) (t : List ℤ) (body : List ℕ) {o : Outcome} → Numbered fault
     → ((number : ℕ) → 30 < number → P (exception number t body)) → (fault ≡ none → P o) → P (unlessFault fault t body o)
 unfolding unlessFault
 by-fault P fault t body n e d =
-    by-test P (eqb fault none) (λ q. d (eqb-true fault none q)) (λ q. e fault (n (eqb-false fault none q)))
+    chosen P (eqb fault none) (λ q. d (eqb-true fault none q)) (λ q. e fault (n (eqb-false fault none q)))
 
 -- what holds of silence, of every exception and of what each function does holds of every message
 pub every : (P : Outcome → Type 0) (t : List ℤ) (address : ℕ) (body : List ℕ) → P (silent otherAddress t)
@@ -41,10 +37,10 @@ pub every : (P : Outcome → Type 0) (t : List ℤ) (address : ℕ) (body : List
     → P (acted t address body)
 unfolding acted obeying reading writing loopingBack
 every P t address body s e r w l =
-    by-test P (ours address body)
-    (λ q. by-test P (eqb (functionOf body) readRegisters) (λ q. by-fault P (readFault body) t body (read-numbered body) e r)
-    (λ q. by-test P (eqb (functionOf body) writeRegister) (λ q. by-fault P (writeFault body) t body (write-numbered body) e w)
-    (λ q. by-test P (eqb (functionOf body) loopback) (λ q. by-fault P (loopbackFault body) t body (loopback-numbered body) e l)
+    chosen P (ours address body)
+    (λ q. chosen P (eqb (functionOf body) readRegisters) (λ q. by-fault P (readFault body) t body (read-numbered body) e r)
+    (λ q. chosen P (eqb (functionOf body) writeRegister) (λ q. by-fault P (writeFault body) t body (write-numbered body) e w)
+    (λ q. chosen P (eqb (functionOf body) loopback) (λ q. by-fault P (loopbackFault body) t body (loopback-numbered body) e l)
     (λ q. e unknownFunction (omega arith)))))
     (λ q. s)
 

@@ -11,6 +11,7 @@ use lib.Dec.{eqb, leb}
 use lib.IntN.{ℤ}
 use lib.ListN.{length, length-append, length-map}
 use Rattle.sign.proofs.Laws.{contrary}
+use Rattle.sign.proofs.Choice.{chosen}
 use Rattle.items.specs.declared.Found.{Found}
 use Rattle.items.specs.declared.Found.the-variants.{At, Nothing}
 use Rattle.items.specs.ItemList.{items, itemList, itemAt, found}
@@ -32,11 +33,6 @@ use Rattle.state.specs.State.{stateBytes, fields, unknownPhase, unpacked}
 use Rattle.panel.specs.Calls.{isCallFault}
 use Rattle.panel.specs.Promise.{longestReply}
 
--- what holds of both answers holds of the one that a test picks
-either : {A : Type 0} (P : A → Type 0) (test : Bool) {x y : A} → P x → P y → P (cond test x y)
-either P true p q = p
-either P false p q = q
-
 -- ---- a step's reply
 
 abbrev Short : Step → Type 0
@@ -45,9 +41,9 @@ Short s = length (s .reply) ≤ longestReply
 item-short : (structure time : ℕ) (t : List ℤ) (i : ℕ) → Short (itemSent structure time t i)
 unfolding itemSent dataReply
 item-short structure time t i =
-    either Short (eqb (written 6 (itemAt i .decimals) (answered t i) .number) none)
-    (simp (length-map, length-append, written-length 6 (itemAt i .decimals) (answered t i) (omega arith)) (omega arith))
-    (omega arith)
+    chosen Short (eqb (written 6 (itemAt i .decimals) (answered t i) .number) none)
+    (λ _. simp (length-map, length-append, written-length 6 (itemAt i .decimals) (answered t i) (omega arith)) (omega arith))
+    (λ _. omega arith)
 
 polled-short : (structure time : ℕ) (t : List ℤ) (f : Found) → Short (polled structure time t f)
 polled-short structure time t (At i) = item-short structure time t i
@@ -71,7 +67,7 @@ performed-short l t structure time (Judge c) = judged-short structure t (verdict
 
 passed-short : (l : Link) (structure time : ℕ) → Short (passed l structure time)
 passed-short l structure time =
-    either Short (eqb (l .phase) waiting && leb patience (elapsed time (l .time))) (omega arith) (omega arith)
+    chosen Short (eqb (l .phase) waiting && leb patience (elapsed time (l .time))) (λ _. omega arith) (λ _. omega arith)
 
 -- ---- the caller's faults are numbered up to that of a bad state
 
@@ -79,19 +75,19 @@ abbrev UpToLast : ℕ → Type 0
 UpToLast n = n ≤ badState
 
 unless-up-to : (test : Bool) (n : ℕ) → UpToLast n → UpToLast (unless test n)
-unless-up-to test n h = either UpToLast test (omega arith) h
+unless-up-to test n h = chosen UpToLast test (λ _. omega arith) (λ _. h)
 
 nothing-up-to : UpToLast none
 nothing-up-to = omega arith
 
 -- the first that is met of a number and those after it
 met-up-to : (n next : ℕ) → UpToLast n → UpToLast next → UpToLast (cond (eqb n none) next n)
-met-up-to n next h hs = either UpToLast (eqb n none) hs h
+met-up-to n next h hs = chosen UpToLast (eqb n none) (λ _. hs) (λ _. h)
 
 table-up-to : (t : List ℤ) → UpToLast (tableFault t)
 unfolding tableFault
 table-up-to t =
-    either UpToLast (eqb (length t) items) (either UpToLast (allInRange itemList t) (omega arith) (omega arith)) (omega arith)
+    chosen UpToLast (eqb (length t) items) (λ _. chosen UpToLast (allInRange itemList t) (λ _. omega arith) (λ _. omega arith)) (λ _. omega arith)
 
 call-up-to : (l : Link) (buffer : ℕ) (settings : Bool) → UpToLast (callFault l buffer settings)
 unfolding callFault
@@ -134,8 +130,9 @@ module _ (s : List ℕ) (t : List ℤ) (buffer address structure time byte : ℕ
   pub received-short : length (received (unpacked s) t buffer address structure time byte .step .reply) ≤ longestReply
   unfolding received
   received-short =
-      either (λ (o : Outcome). Short (o .step)) (eqb (byteFault (unpacked s) t buffer address structure) none)
-      (performed-short _ t structure time _) (omega arith)
+      chosen (λ (o : Outcome). Short (o .step)) (eqb (byteFault (unpacked s) t buffer address structure) none)
+      (λ _. performed-short _ t structure time _)
+      (λ _. omega arith)
 
   pub received-whole : isCallFault (received (unpacked s) t buffer address structure time byte .step .number) ≡ false → length s ≡ stateBytes
   unfolding received
@@ -147,7 +144,7 @@ module _ (s : List ℕ) (buffer structure time : ℕ) where
   pub idled-short : length (idled (unpacked s) buffer structure time .reply) ≤ longestReply
   unfolding idled
   idled-short =
-      either Short (eqb (idleFault (unpacked s) buffer structure) none) (passed-short (used (unpacked s)) structure time) (omega arith)
+      chosen Short (eqb (idleFault (unpacked s) buffer structure) none) (λ _. passed-short (used (unpacked s)) structure time) (λ _. omega arith)
 
   pub idled-whole : isCallFault (idled (unpacked s) buffer structure time .number) ≡ false → length s ≡ stateBytes
   unfolding idled idleFault

@@ -9,6 +9,7 @@ use borrow.Author.Tests.{eqb-true, ltb-false}
 use lib.Dec.{eqb, ltb}
 use lib.IntN.{ℤ}
 use lib.ListN.{getD, take, drop}
+use Rattle.sign.proofs.Choice.{chosen}
 use Rattle.items.specs.declared.Found.{Found}
 use Rattle.items.specs.declared.Found.the-variants.{At, Nothing}
 use Rattle.items.specs.ItemList.{itemAt, found}
@@ -128,28 +129,24 @@ module _ (l k : Link) (t : List ℤ) (structure time : ℕ) where
   abbrev Same : Act → Type 0
   Same x = performed l t structure time x ≡ performed k t structure time x
 
-  chosen : (b : Bool) (x y : Act) → Same x → Same y → Same (cond b x y)
-  chosen true x y p q = p
-  chosen false x y p q = q
-
   astray-same : (c : ℕ) → Same (astray c)
   unfolding performed
-  astray-same c = chosen (isLineError c) _ _ refl refl
+  astray-same c = chosen Same (isLineError c) (λ _. refl) (λ _. refl)
 
   -- outside a block no act asks for the state
   outside-same : (phase first second item address c : ℕ) → eqb phase bccDue ≡ false → eqb phase text ≡ false → Same (decided phase first second item address c)
   unfolding decided performed
   outside-same phase first second item address c p q =
       simp (p, q)
-      (chosen (eqb c EOT) _ _ refl
-      (chosen (eqb phase firstDigit) _ _ (chosen (isTheDigit (address / 10) c) _ _ refl refl)
-      (chosen (eqb phase secondDigit) _ _ (chosen (isTheDigit (address % 10) c) _ _ refl refl)
-      (chosen (eqb phase addressed) _ _ (chosen (eqb c STX) _ _ refl (chosen (printable c) _ _ refl refl))
-      (chosen (eqb phase oneCharacter) _ _ (chosen (printable c) _ _ refl (astray-same c))
-      (chosen (eqb phase twoCharacters) _ _ (chosen (eqb c ENQ) _ _ refl (astray-same c))
-      (chosen (eqb phase waiting) _ _
-      (chosen (eqb c ACK) _ _ (chosen (ltb item lastItem) _ _ refl refl) (chosen (eqb c NAK) _ _ refl refl))
-      (chosen (eqb phase answered) _ _ (chosen (eqb c STX) _ _ refl refl) refl))))))))
+      (chosen Same (eqb c EOT) (λ _. refl)
+      (λ _. chosen Same (eqb phase firstDigit) (λ _. chosen Same (isTheDigit (address / 10) c) (λ _. refl) (λ _. refl))
+      (λ _. chosen Same (eqb phase secondDigit) (λ _. chosen Same (isTheDigit (address % 10) c) (λ _. refl) (λ _. refl))
+      (λ _. chosen Same (eqb phase addressed) (λ _. chosen Same (eqb c STX) (λ _. refl) (λ _. chosen Same (printable c) (λ _. refl) (λ _. refl)))
+      (λ _. chosen Same (eqb phase oneCharacter) (λ _. chosen Same (printable c) (λ _. refl) (λ _. astray-same c))
+      (λ _. chosen Same (eqb phase twoCharacters) (λ _. chosen Same (eqb c ENQ) (λ _. refl) (λ _. astray-same c))
+      (λ _. chosen Same (eqb phase waiting)
+      (λ _. chosen Same (eqb c ACK) (λ _. chosen Same (ltb item lastItem) (λ _. refl) (λ _. refl)) (λ _. chosen Same (eqb c NAK) (λ _. refl) (λ _. refl)))
+      (λ _. chosen Same (eqb phase answered) (λ _. chosen Same (eqb c STX) (λ _. refl) (λ _. refl)) (λ _. refl)))))))))
 
 -- in a block that is what is used
 used-block : (l : Link) (phase : ℕ) → l .phase ≡ phase → inBlock phase ≡ true → eqb phase oneCharacter ≡ false → eqb phase twoCharacters ≡ false → eqb phase waiting ≡ false

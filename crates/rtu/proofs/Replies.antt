@@ -9,6 +9,7 @@ use lib.Dec.{eqb}
 use lib.IntN.{ℤ}
 use lib.ListN.{length}
 use lib.Seq.{sets, length-sets}
+use Rattle.sign.proofs.Choice.{chosen}
 use Rattle.items.specs.Table.{none}
 use Rattle.crc.specs.Crc.{framed, bodyOf, sealed, sealedLength, Seals}
 use Rattle.crc.proofs.Framed.{length-framed}
@@ -17,7 +18,6 @@ use Rattle.modbus.specs.declared.Answered.{Answered}
 use Rattle.modbus.specs.Outcome.{Outcome, silent}
 use Rattle.modbus.specs.Rules.{acted}
 use Rattle.modbus.specs.Promise.{Gives}
-use Rattle.modbus.proofs.Laws.{by-test}
 use Rattle.rtu.specs.Frame.{refusal, sealedReply, withCrc, unlessRefused, actedOn}
 
 -- ---- what comes of a frame, by cases
@@ -35,7 +35,7 @@ module _ (t : List ℤ) (room address : ℕ) (frame : List ℕ) where
   pub every-frame : (P : Outcome → Type 0) → ((number : ℕ) → P (silent number t)) → P (withCrc (acted t address (bodyOf frame)))
       → P (actedOn t room address frame)
   unfolding actedOn unlessRefused
-  every-frame P s a = by-test P (eqb (refusal t room address frame) none) (λ q. a) (λ q. s (refusal t room address frame))
+  every-frame P s a = chosen P (eqb (refusal t room address frame) none) (λ q. a) (λ q. s (refusal t room address frame))
 
 -- ---- sealing a reply
 
