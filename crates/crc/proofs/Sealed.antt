@@ -2,7 +2,7 @@
 -- frame, and what stays as it was.
 -- Assumes nothing.
 use mathlib.Core.Path.{_≡_, refl, sym, ap, ap₂, _∙_}
-use mathlib.Core.Bool.{Bool, true, false, cond}
+use mathlib.Core.Bool.{true}
 use mathlib.Core.List.{List, _++_}
 use Prim.Native.Nat.{ℕ, _+_, _≤_, _<_}
 use native.Mathlib.Nat.{zero-add}
@@ -11,6 +11,7 @@ use borrow.Author.Tests.{le-leb, lt-leb, leb-true}
 use lib.Dec.{leb}
 use lib.ListN.{length, take, drop}
 use lib.Seq.{drop-append-add, drop-at, drop-drop, length-front, length-sets, length-take-le, sets, sets-eq, take-append-seam, take-at}
+use Rattle.sign.proofs.Choice.{chosen}
 use Rattle.crc.specs.Crc.{framed, isRight, sealed, sealedLength, Seals}
 use Rattle.crc.proofs.Framed.{framed-right, length-framed}
 
@@ -33,11 +34,8 @@ without-room buffer n full = record {
 sealed-by : (P : List ℕ → Type 0) (buffer : List ℕ) (n : ℕ) → P buffer
     → (n + 2 ≤ length buffer → P (framed (take n buffer) ++ drop (n + 2) buffer)) → P (sealed buffer n)
 unfolding sealed
-sealed-by P buffer n without with = go (leb (n + 2) (length buffer)) refl
-  where
-    go : (b : Bool) → leb (n + 2) (length buffer) ≡ b → P (cond b (framed (take n buffer) ++ drop (n + 2) buffer) buffer)
-    go true e = with (leb-true (n + 2) (length buffer) e)
-    go false e = without
+sealed-by P buffer n without with =
+    chosen P (leb (n + 2) (length buffer)) (λ e. with (leb-true (n + 2) (length buffer) e)) (λ _. without)
 
 -- the frame is two bytes longer
 frame-length : (buffer : List ℕ) (n : ℕ) → n + 2 ≤ length buffer → length (framed (take n buffer)) ≡ n + 2

@@ -11,6 +11,7 @@ use borrow.Author.Tests.{le-leb, lt-leb, lt-ltb, ltb-true, ltb-false, eq-eqb, ne
 use lib.Count.{ones, ones-cat}
 use lib.Dec.{ltb, eqb}
 use Rattle.sign.proofs.Laws.{contrary}
+use Rattle.sign.proofs.Choice.{chosen}
 use Rattle.line.specs.Line.{topBit, lowSeven, parity, keeps, topUnless, heard, isLineError, sent}
 use Rattle.line.proofs.Laws.{low-seven-small}
 
@@ -23,11 +24,7 @@ top-bit-counts c h =
     ap ones (add-comm c topBit) ∙ ones-cat 7 1 c h ∙ ap (λ (n : ℕ). n + ones c) one-one ∙ add-comm 1 (ones c)
 
 parity-small : (structure : ℕ) → parity structure < 2
-parity-small structure = go (eqb structure 1)
-  where
-    go : (t : Bool) → cond t 0 1 < 2
-    go true = omega arith
-    go false = omega arith
+parity-small structure = chosen (λ (n : ℕ). n < 2) (eqb structure 1) (λ _. omega arith) (λ _. omega arith)
 
 -- one test of the number of ones serves both parities: it is even exactly where even is asked for
 pub even-as-asked : (n : ℕ) (even : Bool) → Bool·beq (eqb (n % 2) 0) even ≡ eqb (n % 2) (cond even 0 1)

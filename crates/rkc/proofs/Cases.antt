@@ -8,6 +8,7 @@ use native.Mathlib.Omega.{arith}
 use borrow.Author.Tests.{eq-eqb, ne-eqb, eqb-true, eqb-false, leb-true, le-leb, lt-leb}
 use lib.Dec.{eqb, leb}
 use lib.IntN.{ℤ}
+use Rattle.sign.proofs.Choice.{chosen}
 use Rattle.items.specs.ItemList.{itemAt}
 use Rattle.items.specs.Table.{none, tableFault, answered}
 use Rattle.line.specs.Line.{sent, heard}
@@ -52,11 +53,7 @@ module _ (structure time : ℕ) (t : List ℤ) (i : ℕ) (w : Written) (e : w �
 
 -- the last number that is tried
 last-met : (n : ℕ) → firstMet (n ∷ []) ≡ n
-last-met n = by (eqb n none) refl
-  where
-    by : (t : Bool) → eqb n none ≡ t → cond t none n ≡ n
-    by true e = sym (eqb-true n none e)
-    by false e = refl
+last-met n = chosen (λ (m : ℕ). m ≡ n) (eqb n none) (λ e. sym (eqb-true n none e)) (λ _. refl)
 
 pub call-short : (l : Link) (buffer : ℕ) (settings : Bool) → buffer < leastBuffer → callFault l buffer settings ≡ shortBuffer
 unfolding callFault

@@ -2,20 +2,21 @@
 -- `idled` for whatever is handed in. The claims stand in specs/Demands.antt.
 -- Assumes nothing.
 use mathlib.Core.Path.{_≡_, refl, sym, _∙_}
-use mathlib.Core.Bool.{Bool, true, false, cond, _&&_}
+use mathlib.Core.Bool.{Bool, true, false, _&&_}
 use mathlib.Core.List.{List, [], _∷_, map}
-use Prim.Native.Nat.{ℕ, _+_, _-_, _≤_}
+use Prim.Native.Nat.{ℕ, _-_, _≤_}
 use borrow.Author.Tests.{eq-eqb, eqb-true, eqb-false}
 use lib.Dec.{eqb, leb}
 use lib.IntN.{ℤ}
 use lib.Signed.{leZ}
+use Rattle.sign.proofs.Choice.{chosen}
 use Rattle.items.specs.ItemList.{itemAt, found}
 use Rattle.items.specs.declared.Found.{Found}
 use Rattle.items.specs.declared.Found.the-variants.{At, Nothing}
 use Rattle.items.specs.Table as table
 use Rattle.items.specs.Table.{none, tableFault, goodTable, entry}
 use Rattle.items.proofs.Laws.{good-stored, stored-read-only, answered-AA, answered-AB}
-use Rattle.line.specs.Line.{sent, heard}
+use Rattle.line.specs.Line.{EOT, ACK, NAK, sent, heard}
 use Rattle.line.proofs.Parity.{sent-keeps}
 use Rattle.text.specs.Writing.{fits, text, accepted, written}
 use Rattle.phases.specs.Phases.{waiting}
@@ -26,8 +27,8 @@ use Rattle.block.specs.declared.Verdict.{Verdict}
 use Rattle.block.specs.declared.Verdict.the-variants.{Store, Refuse}
 use Rattle.block.proofs.Laws.{verdict-stores}
 use Rattle.rkc.specs.declared.Link.{Link}
-use Rattle.rkc.specs.State.{waitingOn, used, inLimits}
-use Rattle.rkc.specs.Outcome.{Step, Outcome, quit, noRoom, dataReply, itemSent, polled, judged, keeping, performed, asked, handedBack, received}
+use Rattle.rkc.specs.State.{used, inLimits}
+use Rattle.rkc.specs.Outcome.{Step, Outcome, quit, dataReply, itemSent, polled, judged, keeping, performed, asked, handedBack, received}
 use Rattle.rkc.specs.Outcome.{silent, leastBuffer, goodSettings, byteFault, elapsed, patience, timedOut, idleFault, idled}
 use Rattle.rkc.specs.Demands.{allKeep, OfByte, OfIdle, stateText, OfAlarms}
 use Rattle.rkc.proofs.Cases.{call-state, call-none, byte-call, byte-none, received-fault, received-fine, idled-fault, idled-fine}
@@ -72,11 +73,10 @@ one-keeps structure c = rw (sent-keeps structure c)
 
 item-keeps : (structure time : ℕ) (t : List ℤ) (i : ℕ) → allKeep structure (itemSent structure time t i .reply) ≡ true
 unfolding itemSent
-item-keeps structure time t i = by (eqb (written 6 (itemAt i .decimals) (table.answered t i) .number) none)
-  where
-    by : (b : Bool) → allKeep structure (cond b (record { link = waitingOn (i + 1) time; number = none; reply = map (sent structure) (dataReply i (written 6 (itemAt i .decimals) (table.answered t i) .chars)) }) (quit structure noRoom) .reply) ≡ true
-    by true = sent-all-keep structure (dataReply i (written 6 (itemAt i .decimals) (table.answered t i) .chars))
-    by false = one-keeps structure 4
+item-keeps structure time t i =
+    chosen (λ (s : Step). allKeep structure (s .reply) ≡ true) (eqb (written 6 (itemAt i .decimals) (table.answered t i) .number) none)
+    (λ _. sent-all-keep structure (dataReply i (written 6 (itemAt i .decimals) (table.answered t i) .chars)))
+    (λ _. one-keeps structure EOT)
 
 performed-keeps : (l : Link) (t : List ℤ) (structure time : ℕ) (x : Act) → allKeep structure (performed l t structure time x .step .reply) ≡ true
 unfolding performed
@@ -85,18 +85,18 @@ performed-keeps l t structure time (First a) = refl
 performed-keeps l t structure time (Both a b) = refl
 performed-keeps l t structure time (More c) = refl
 performed-keeps l t structure time Ended = refl
-performed-keeps l t structure time (Quit number) = one-keeps structure 4
+performed-keeps l t structure time (Quit number) = one-keeps structure EOT
 performed-keeps l t structure time (Poll a b) = by (found a b)
   where
     by : (f : Found) → allKeep structure (polled structure time t f .reply) ≡ true
     by (At i) = item-keeps structure time t i
-    by Nothing = one-keeps structure 4
+    by Nothing = one-keeps structure EOT
 performed-keeps l t structure time (Send item) = item-keeps structure time t (item - 1)
 performed-keeps l t structure time (Judge c) = by (verdict (l .mark) (l .bcc) (l .count) (l .kept) c)
   where
     by : (v : Verdict) → allKeep structure (judged structure t v .step .reply) ≡ true
-    by (Store i v) = one-keeps structure 6
-    by (Refuse n) = one-keeps structure 21
+    by (Store i v) = one-keeps structure ACK
+    by (Refuse n) = one-keeps structure NAK
 
 -- ---- one received byte
 
@@ -158,15 +158,11 @@ module _ (l : Link) (buffer structure time : ℕ) where
       → P (idled l buffer structure time)
   by-step P fault late early = by (eqb (idleFault l buffer structure) none) refl
     where
-      passing : (b : Bool) → idleFault l buffer structure ≡ none → P (cond b (quit structure timedOut) (silent (used l)))
-      passing true z = late z
-      passing false z = early z
-
       by : (b : Bool) → eqb (idleFault l buffer structure) none ≡ b → P (idled l buffer structure time)
       by true e =
           let z = eqb-true _ _ e in
           rw (idled-fine l buffer structure time refl z)
-          (passing (eqb (used l .phase) waiting && leb patience (elapsed time (used l .time))) z)
+          (chosen P (eqb (used l .phase) waiting && leb patience (elapsed time (used l .time))) (λ _. late z) (λ _. early z))
       by false e = let n = eqb-false _ _ e in rw (idled-fault l buffer structure time refl n) (fault n)
 
   idle-fine : idleFault l buffer structure ≡ none → (leastBuffer ≤ buffer) × (leb structure 2 ≡ true) × (inLimits l ≡ true)
@@ -184,7 +180,7 @@ module _ (l : Link) (buffer structure time : ℕ) where
     refusalLeavesAll = λ n. rw (idled-fault l buffer structure time refl n) (refl, refl);
     staysInLimits = λ z. idle-after z;
     runsOn = λ z. let f = idle-fine z in call-state _ buffer (leb structure 2) (f .0) (f .1) (sym (idle-after z));
-    keepsStructure = by-step (λ (s : Step). allKeep structure (s .reply) ≡ true) (λ n. refl) (λ z. one-keeps structure 4) (λ z. refl);
+    keepsStructure = by-step (λ (s : Step). allKeep structure (s .reply) ≡ true) (λ n. refl) (λ z. one-keeps structure EOT) (λ z. refl);
   }
 
 -- ---- the alarm states on the line

@@ -2,21 +2,21 @@
 -- Assumes nothing.
 use mathlib.Core.Path.{_≡_, refl, sym, _∙_}
 use mathlib.Core.Bool.{Bool, true, false, cond, _&&_}
-use mathlib.Core.List.{List, [], _∷_, map}
+use mathlib.Core.List.{List, [], _∷_}
 use Prim.Native.Nat.{ℕ, zero, suc, _+_, _-_, _<_, _≤_}
 use native.Mathlib.Omega.{arith}
 use borrow.Author.Tests.{eq-eqb, ne-eqb, ltb-true, lt-ltb, leb-true, le-leb}
 use lib.Dec.{eqb, ltb, leb, lit≤, lit<}
 use lib.IntN.{ℤ}
 use lib.ListN.{getD, set}
-use Rattle.sign.proofs.Choice.{both}
+use Rattle.sign.proofs.Choice.{both, chosen}
 use Rattle.items.specs.declared.Found.{Found}
 use Rattle.items.specs.declared.Found.the-variants.{At, Nothing}
 use Rattle.items.specs.ItemList.{items, itemAt, found}
 use Rattle.items.specs.Table as table
 use Rattle.items.specs.Table.{none}
 use Rattle.items.proofs.Laws.{found-place}
-use Rattle.line.specs.Line.{ETX, topBit, lowSeven, sent, within}
+use Rattle.line.specs.Line.{ETX, topBit, lowSeven, within}
 use Rattle.line.proofs.Laws.{within-in, within-true, low-seven-small, taken-small}
 use Rattle.text.specs.Writing.{written}
 use Rattle.phases.specs.Phases.{oneCharacter, twoCharacters, waiting, text, bccDue, answered}
@@ -30,7 +30,7 @@ use Rattle.block.specs.declared.Verdict.the-variants.{Store, Refuse}
 use Rattle.rkc.specs.declared.Link.{Link}
 use Rattle.rkc.specs.State.{inPhase, holdingOne, holdingTwo, waitingOn, block, upTo, inBlock, used, isCharacter, allCharacters}
 use Rattle.rkc.specs.State.{mostCounted, blockInLimits, inLimits, oneMore, withMore, withEnd}
-use Rattle.rkc.specs.Outcome.{asked, quit, noRoom, dataReply, itemSent, polled, judged, performed}
+use Rattle.rkc.specs.Outcome.{Step, asked, itemSent, polled, judged, performed}
 use Rattle.rkc.proofs.Used.{used-phase, asked-used}
 
 -- an identifier's first character, and an item that is waited on
@@ -124,11 +124,8 @@ more-limits l c s =
     (taken-small (l .bcc) c (s .summed)) (all-set (l .kept) (l .count) (lowSeven c) (s .kept) (low-seven-small c))
   where
     counted-more : (n : ℕ) → oneMore n ≤ mostCounted
-    counted-more n = by (ltb n mostCounted) refl
-      where
-        by : (b : Bool) → ltb n mostCounted ≡ b → cond b (n + 1) mostCounted ≤ mostCounted
-        by true e = let h = ltb-true n mostCounted e in omega arith
-        by false e = omega arith
+    counted-more n =
+        chosen (λ (m : ℕ). m ≤ mostCounted) (ltb n mostCounted) (λ e. let h = ltb-true n mostCounted e in omega arith) (λ _. omega arith)
 
 end-limits : (l : Link) → Small l → inLimits (withEnd l) ≡ true
 unfolding withEnd
@@ -139,11 +136,10 @@ end-limits l s =
 -- an item of the list, waited on or given up
 item-limits : (structure time : ℕ) (t : List ℤ) (i : ℕ) → i < items → inLimits (itemSent structure time t i .link) ≡ true
 unfolding itemSent inLimits
-item-limits structure time t i h = by (eqb (written 6 (itemAt i .decimals) (table.answered t i) .number) none)
-  where
-    by : (b : Bool) → inLimits (cond b (record { link = waitingOn (i + 1) time; number = none; reply = map (sent structure) (dataReply i (written 6 (itemAt i .decimals) (table.answered t i) .chars)) }) (quit structure noRoom) .link) ≡ true
-    by true = within-in 1 items (i + 1) (omega arith) (omega arith)
-    by false = refl
+item-limits structure time t i h =
+    chosen (λ (s : Step). inLimits (s .link) ≡ true) (eqb (written 6 (itemAt i .decimals) (table.answered t i) .number) none)
+    (λ _. within-in 1 items (i + 1) (omega arith) (omega arith))
+    (λ _. refl)
 
 pub performed-limits : (l : Link) (t : List ℤ) (structure time : ℕ) (x : Act) → Small l → Limited x
     → inLimits (performed l t structure time x .step .link) ≡ true

@@ -1,7 +1,7 @@
 -- What a written text is made of: how many digits have room, how many characters there are, and what characters they are.
 -- Assumes nothing.
 use mathlib.Core.Path.{_≡_, refl, ap, _∙_}
-use mathlib.Core.Bool.{Bool, true, false, cond}
+use mathlib.Core.Bool.{Bool, true, false}
 use mathlib.Core.List.{List, [], _∷_, _++_}
 use Prim.Native.Nat.{ℕ, zero, suc, _+_, _-_, _<_, _≤_}
 use native.Mathlib.Omega.{arith}
@@ -10,7 +10,7 @@ use lib.Dec.{ltb}
 use lib.IntN.{ℤ, pos, natAbs}
 use lib.ListN.{length, getD, take, drop, length-append, length-take, length-drop, length-replicate, take-append-drop, replicate}
 use lib.Signed.{ltZ}
-use Rattle.sign.proofs.Choice.{both}
+use Rattle.sign.proofs.Choice.{both, chosen}
 use Rattle.text.specs.Characters.{minusSign, point, isDigit}
 use Rattle.text.specs.Numbers.{mostDecimals, none, doesNotFit, tooManyDecimals}
 use Rattle.text.specs.Reading.{allDigits}
@@ -94,13 +94,9 @@ sign-below false = below-none
 module _ (width d : ℕ) (v : ℤ) where
   pub by-outcome : (P : Written → Type 0) → P (refusal width tooManyDecimals) → P (refusal width doesNotFit) → (d ≤ mostDecimals → P (accepted (text width d v))) → P (written width d v)
   unfolding written
-  by-outcome P many none fit = by-tests (ltb mostDecimals d) (fits width d v) refl
-    where
-      by-tests : (a b : Bool) → ltb mostDecimals d ≡ a
-          → P (cond a (refusal width tooManyDecimals) (cond b (accepted (text width d v)) (refusal width doesNotFit)))
-      by-tests true b e = many
-      by-tests false true e = fit (ltb-false mostDecimals d e)
-      by-tests false false e = none
+  by-outcome P many none fit =
+      chosen P (ltb mostDecimals d) (λ _. many)
+      (λ e. chosen P (fits width d v) (λ _. fit (ltb-false mostDecimals d e)) (λ _. none))
 
   pub written-length : 6 ≤ width → length (written width d v .chars) ≡ width
   unfolding text
