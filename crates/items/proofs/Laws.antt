@@ -17,7 +17,7 @@ use Rattle.sign.proofs.Laws.{contrary}
 use Rattle.sign.proofs.Choice.{both}
 use Rattle.items.specs.ItemList.{Item}
 use Rattle.items.specs.declared.Found.the-variants.{At}
-use Rattle.items.specs.ItemList.{items, itemList, noItem, itemAt, firstFrom, named, registered, found, foundByRegister}
+use Rattle.items.specs.ItemList.{items, itemList, noItem, itemAt, firstFrom, named, found}
 use Rattle.items.specs.Table.{none, fromLowToHigh, inRange, allInRange, tableFault, goodTable, startValues, entry, M1, AA, AB, A1, A2, alarm, answered, stored, noSuchItem, valueOutside, putNumber, putTable}
 use Rattle.items.specs.Promise.{Lent}
 
@@ -33,9 +33,6 @@ good-parts t g = by (eqb (length t) items) (allInRange itemList t) refl refl (eq
     by true true p q e = (eqb-true _ _ p, q)
     by true false p q e = absurd (let z : _≡_ {A = ℕ} 2 0 = e in omega arith)
     by false b p q e = absurd (let z : _≡_ {A = ℕ} 1 0 = e in omega arith)
-
-pub good-length : (t : List ℤ) → goodTable t ≡ true → length t ≡ items
-good-length t g = good-parts t g .0
 
 good-from : (t : List ℤ) → length t ≡ items → allInRange itemList t ≡ true → goodTable t ≡ true
 unfolding tableFault
@@ -165,19 +162,12 @@ first-passes p (x ∷ xs) i j e = by (first-passes p xs (suc i) j) (p x) refl e
     by rest true t q = let z : i ≡ j = cc in (omega arith, omega arith, here z t)
     by rest false t q = let r = rest q in (omega (arith, r .0), omega (arith, r .1), there (r .0) (r .2))
 
-list-passes : (p : Item → Bool) (j : ℕ) → firstFrom 0 p itemList ≡ At j → (j < items) × (p (itemAt j) ≡ true)
-list-passes p j e =
-    let r = first-passes p itemList 0 j e in
-    let z : j - 0 ≡ j = omega arith in
-    (r .1, sym (ap (λ (k : ℕ). p (itemAt k)) z) ∙ r .2)
-
 pub found-place : (a b j : ℕ) → found a b ≡ At j → (j < items) × (named a b (itemAt j) ≡ true)
 unfolding found
-found-place a b j e = list-passes (named a b) j e
-
-pub register-place : (r j : ℕ) → foundByRegister r ≡ At j → (j < items) × (itemAt j .register ≡ r)
-unfolding foundByRegister
-register-place r j e = let f = list-passes (registered r) j e in (f .0, eqb-true (itemAt j .register) r (f .1))
+found-place a b j e =
+    let r = first-passes (named a b) itemList 0 j e in
+    let z : j - 0 ≡ j = omega arith in
+    (r .1, sym (ap (λ (k : ℕ). named a b (itemAt k)) z) ∙ r .2)
 
 -- ---- the alarm states
 
@@ -194,7 +184,7 @@ alarm-only t limit = by (leZ (entry t limit) (entry t M1))
     by true e = refl
     by false e = absurd (let z : _≡_ {A = ℕ} 0 1 = cc in omega arith)
 
--- AA goes by A1, AB by A2, and any other answer is the entry
+-- AA goes by A1, AB by A2
 pub answered-AA : (t : List ℤ) → answered t AA ≡ alarm t A1
 unfolding answered
 answered-AA t = refl
@@ -202,7 +192,3 @@ answered-AA t = refl
 pub answered-AB : (t : List ℤ) → answered t AB ≡ alarm t A2
 unfolding answered
 answered-AB t = refl
-
-pub answered-entry : (t : List ℤ) (i : ℕ) → (i ≡ AA → ⊥) → (i ≡ AB → ⊥) → answered t i ≡ entry t i
-unfolding answered
-answered-entry t i a b = simp (ne-eqb i AA a, ne-eqb i AB b)

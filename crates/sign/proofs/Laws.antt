@@ -9,7 +9,7 @@ use native.Mathlib.Omega.{arith}
 use borrow.Author.Tests.{ltb-true, lt-ltb, le-ltb}
 use lib.Dec.{T}
 use lib.IntN.{ℤ, pos, negsuc, natAbs, _-ℤ_}
-use lib.Signed.{ltZ, leZ, mag, natAbs-le}
+use lib.Signed.{ltZ, mag, natAbs-le}
 use mir.Syntax.{w32, w64}
 use mir.Val.{SFits, toZ, ofZ}
 use mir.Facts.{toZ-ofZ, sfits-widen}
@@ -23,13 +23,9 @@ contrary e = absurd (subst T e tt)
 pub same : (v : ℤ) → mag v < 2 ^ 31 → toZ w32 (ofZ w32 v) ≡ v
 same v h = toZ-ofZ {w = w32} (record { sfits = h })
 
--- what `at_most`, `less` and `size` ensure at a call, of the numbers that its arguments stand for
-module _ (a b : ℤ) (fa : mag a < 2 ^ 31) (fb : mag b < 2 ^ 31) {r : Bool} where
-  pub at-most-of : r ≡ leZ (toZ w32 (ofZ w32 a)) (toZ w32 (ofZ w32 b)) → r ≡ leZ a b
-  at-most-of e = e ∙ ap₂ leZ (same a fa) (same b fb)
-
-  pub less-of : r ≡ ltZ (toZ w32 (ofZ w32 a)) (toZ w32 (ofZ w32 b)) → r ≡ ltZ a b
-  less-of e = e ∙ ap₂ ltZ (same a fa) (same b fb)
+-- what `less` and `size` ensure at a call, of the numbers that its arguments stand for
+pub less-of : (a b : ℤ) → mag a < 2 ^ 31 → mag b < 2 ^ 31 → {r : Bool} → r ≡ ltZ (toZ w32 (ofZ w32 a)) (toZ w32 (ofZ w32 b)) → r ≡ ltZ a b
+less-of a b fa fb e = e ∙ ap₂ ltZ (same a fa) (same b fb)
 
 pub size-of : (v : ℤ) → mag v < 2 ^ 31 → {n : ℕ} → n ≡ natAbs (toZ w32 (ofZ w32 v)) → n ≡ natAbs v
 size-of v h e = e ∙ ap natAbs (same v h)

@@ -5,7 +5,7 @@ use mathlib.Core.Path.{_≡_, sym, _∙_}
 use mathlib.Core.Bool.{Bool}
 use Prim.Native.Nat.{ℕ}
 use lib.IntN.{ℤ, natAbs}
-use lib.Signed.{ltZ, leZ}
+use lib.Signed.{ltZ}
 use Rattle.sign.specs.Sign.{made}
 
 pub single : {A : Type 0} {x r s : A} → r ≡ x → s ≡ x → r ≡ s
@@ -13,9 +13,6 @@ single p q = p ∙ sym q
 
 pub less-single : (a b : ℤ) {r s : Bool} → r ≡ ltZ a b → s ≡ ltZ a b → r ≡ s
 less-single a b = single
-
-pub at-most-single : (a b : ℤ) {r s : Bool} → r ≡ leZ a b → s ≡ leZ a b → r ≡ s
-at-most-single a b = single
 
 pub size-single : (v : ℤ) {r s : ℕ} → r ≡ natAbs v → s ≡ natAbs v → r ≡ s
 size-single v = single

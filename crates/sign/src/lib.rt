@@ -1,7 +1,7 @@
 // Signed numbers: their order, their size without the sign, and making one from a sign and a size.
 ghost use mathlib.Core.Path.{_≡_};
 ghost use lib.IntN.{natAbs};
-ghost use lib.Signed.{ltZ, leZ};
+ghost use lib.Signed.{ltZ};
 ghost use Rattle.sign.specs.Sign.{made};
 
 // Whether a is below b.
@@ -9,13 +9,6 @@ pub fn less(a: i32, b: i32) -> bool
     ensures { λ r. ⌜ r ≡ ltZ a b ⌝ }
 {
     a < b
-}
-
-// Whether a is at most b.
-pub fn at_most(a: i32, b: i32) -> bool
-    ensures { λ r. ⌜ r ≡ leZ a b ⌝ }
-{
-    a <= b
 }
 
 // The size of v, without its sign. It goes by way of 64 bits because the least i32 has a size that no i32 holds.
