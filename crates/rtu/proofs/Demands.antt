@@ -1,5 +1,5 @@
--- Document 01's demands on the RTU line. Demand 1: what a call leaves alone. Demand 3: line damage of the kinds named is never
--- acted on.
+-- Document 01's demands on the RTU line. Demand 1: what a call leaves alone, as claimed in specs/Demands.antt. Demand 3: line
+-- damage of the kinds named is never acted on.
 -- Assumes nothing.
 use mathlib.Core.Path.{_≡_, refl, sym, ap, _∙_}
 use mathlib.Core.Bool.{true, false}
@@ -9,8 +9,8 @@ use native.Mathlib.Omega.{arith}
 use lib.IntN.{ℤ}
 use lib.ListN.{length}
 use lib.Seq.{sets}
-use Rattle.items.specs.ItemList.{items, itemAt}
-use Rattle.items.specs.Table.{none, inRange, goodTable, entry}
+use Rattle.items.specs.ItemList.{itemAt}
+use Rattle.items.specs.Table.{none, goodTable, entry}
 use Rattle.items.proofs.Laws.{good-entry}
 use Rattle.crc.specs.Crc.{bodyOf}
 use Rattle.crc.specs.Damage.{Spoils, flip}
@@ -22,23 +22,11 @@ use Rattle.modbus.specs.Promise.{Gives}
 use Rattle.modbus.proofs.Laws.{number-leaves-table, number-silent, read-only-stays, good-stays}
 use Rattle.rtu.specs.Frame.{wrongCrc, callFault, refusal, sealedReply, actedOn}
 use Rattle.rtu.specs.Promise.{Untouched, Acts}
+use Rattle.rtu.specs.Demands.{OfFrame}
 use Rattle.rtu.proofs.Refusals.{next-fault, frame-crc}
 use Rattle.rtu.proofs.Replies.{acted-refused, every-frame}
 
 -- ---- demand 1
-
--- what a call that is handed a frame leaves alone
-pub record Demand1 (table : List ℤ) (before : List ℕ) (r : Answered) (after : List ℕ) (left : List ℤ) : Type 0 where
-  -- a number below the exceptions, 1 to 4 or 21 to 23, leaves all
-  pub refusalLeavesAll : 0 < r .number → r .number < unknownFunction → Untouched (r .number) table before r after left
-  -- an exception leaves the table too
-  pub numberLeavesTable : 0 < r .number → left ≡ table
-  -- the entry of a read-only item never changes
-  pub readOnlyStays : (j : ℕ) → itemAt j .writable ≡ false → entry left j ≡ entry table j
-  -- a good table stays good
-  pub goodStays : goodTable table ≡ true → goodTable left ≡ true
-  -- so each entry, the writable ones among them, stays in its range
-  pub inRangeStays : goodTable table ≡ true → (j : ℕ) → j < items → inRange j (entry left j) ≡ true
 
 -- silence that leaves the table touches nothing
 untouched : {o : Outcome} {r : Answered} {t : List ℤ} {before after : List ℕ} {left : List ℤ} → Gives o r before after left
@@ -75,9 +63,9 @@ module _ (t : List ℤ) (room address : ℕ) (frame : List ℕ) where
       (good-stays t address (bodyOf frame) g)
 
 -- every call that keeps its promise meets demand 1
-pub demand-1 : (table : List ℤ) (before : List ℕ) (address : ℕ) (frame : List ℕ) {r : Answered} {after : List ℕ} {left : List ℤ}
-    → Acts table before address frame r after left → Demand1 table before r after left
-demand-1 table before address frame {r} {after} {left} a =
+pub demand-1-frame : (table : List ℤ) (before : List ℕ) (address : ℕ) (frame : List ℕ) {r : Answered} {after : List ℕ} {left : List ℤ}
+    → Acts table before address frame r after left → OfFrame table before r after left
+demand-1-frame table before address frame {r} {after} {left} a =
     let room = length before in
     let g = a .outcome in
     let given : r .number ≡ actedOn table room address frame .number = g .sends .given in
@@ -88,7 +76,7 @@ demand-1 table before address frame {r} {after} {left} a =
           untouched g (refused-silent table room address frame (omega arith) (omega arith)) (numbered-leaves table room address frame (omega arith));
       numberLeavesTable = λ h. g .table ∙ numbered-leaves table room address frame (omega arith);
       readOnlyStays = λ j h. ap (λ (t : List ℤ). entry t j) (g .table) ∙ frame-read-only table room address frame j h;
-      goodStays = stays;
+      goodStaysGood = stays;
       inRangeStays = λ h j k. good-entry left j (stays h) k;
     }
 

@@ -1,2 +1,3 @@
 pub mod Frame
 pub mod Promise
+pub mod Demands
