@@ -4,21 +4,25 @@ use mathlib.Core.Path.{_≡_, subst, _∙_}
 use mathlib.Core.Bool.{false}
 use mathlib.Core.List.{List}
 use Prim.Native.Nat.{ℕ, _≤_}
+use native.Mathlib.Omega.{arith}
 use lib.IntN.{ℤ}
 use lib.ListN.{length}
 use Rattle.rkc.specs.declared.Link.{Link}
 use Rattle.rkc.specs.declared.Stepped.{Stepped}
 use Rattle.rkc.specs.Outcome.{Step, received, idled}
 use Rattle.rkc.specs.Promise.{Steps, Leads}
+use Rattle.rkc.proofs.Replies.{received-short, idled-short}
 use Rattle.state.specs.State.{stateBytes, unpacked}
 use Rattle.panel.specs.Calls.{isCallFault}
 use Rattle.panel.specs.Promise.{longestReply, Holdable, Held, StepLeft, ByteLeft}
-use Rattle.panel.proofs.Replies.{received-short, received-whole, idled-short, idled-whole}
+use Rattle.panel.proofs.Faults.{received-whole, idled-whole}
 
-holdable : (s : List ℕ) (step : Step) (r : Stepped) → length (step .reply) ≤ longestReply
+holdable : (s : List ℕ) (step : Step) (r : Stepped) → length (step .reply) ≤ 11
     → (isCallFault (step .number) ≡ false → length s ≡ stateBytes)
     → r ≡ record { link = step .link; number = step .number; len = length (step .reply) } → Holdable r s
-holdable s step r short whole back = record { short = rw back short; whole = rw back whole }
+holdable s step r short whole back =
+    let few : length (step .reply) ≤ longestReply = omega arith in
+    record { short = rw back few; whole = rw back whole }
 
 step-left : {step : Step} {r : Stepped} {n : ℕ} {s held before after : List ℕ} → Steps step r before after → Held r n s held
     → StepLeft step n s held before after
@@ -32,7 +36,7 @@ module _ (s : List ℕ) (t : List ℤ) (buffer address structure time byte : ℕ
   pub byte-holdable : Holdable r s
   byte-holdable =
       holdable s (received (unpacked s) t buffer address structure time byte .step) r
-      (received-short s t buffer address structure time byte) (received-whole s t buffer address structure time byte) (leads .steps .back)
+      (received-short structure (unpacked s) t buffer address time byte) (received-whole s t buffer address structure time byte) (leads .steps .back)
 
   pub byte-left : {n : ℕ} {held : List ℕ} → Held r n s held
       → ByteLeft (received (unpacked s) t buffer address structure time byte) n s held before after left
@@ -45,7 +49,7 @@ module _ (s : List ℕ) (buffer structure time : ℕ) {l : Link} {r : Stepped} {
 
   pub idle-holdable : Holdable r s
   idle-holdable =
-      holdable s (idled (unpacked s) buffer structure time) r (idled-short s buffer structure time) (idled-whole s buffer structure time) (steps .back)
+      holdable s (idled (unpacked s) buffer structure time) r (idled-short structure (unpacked s) buffer time) (idled-whole s buffer structure time) (steps .back)
 
   pub idle-left : {n : ℕ} {held : List ℕ} → Held r n s held → StepLeft (idled (unpacked s) buffer structure time) n s held before after
   idle-left h = step-left steps h

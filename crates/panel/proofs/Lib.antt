@@ -1,3 +1,3 @@
-pub mod Replies
+pub mod Faults
 pub mod Holding
 pub mod Single

@@ -4,19 +4,17 @@
 use mathlib.Core.Path.{_≡_, refl, sym, _∙_}
 use mathlib.Core.Bool.{Bool, true, false, _&&_}
 use mathlib.Core.List.{List, [], _∷_, map}
-use Prim.Native.Nat.{ℕ, _-_, _≤_}
+use Prim.Native.Nat.{ℕ, _≤_}
 use borrow.Author.Tests.{eq-eqb, eqb-true, eqb-false}
 use lib.Dec.{eqb, leb}
 use lib.IntN.{ℤ}
 use lib.Signed.{leZ}
 use Rattle.sign.proofs.Choice.{chosen}
-use Rattle.items.specs.ItemList.{itemAt, found}
-use Rattle.items.specs.declared.Found.{Found}
-use Rattle.items.specs.declared.Found.the-variants.{At, Nothing}
+use Rattle.items.specs.ItemList.{itemAt}
 use Rattle.items.specs.Table as table
 use Rattle.items.specs.Table.{none, tableFault, goodTable, entry}
 use Rattle.items.proofs.Laws.{good-stored, stored-read-only, answered-AA, answered-AB}
-use Rattle.line.specs.Line.{EOT, ACK, NAK, sent, heard}
+use Rattle.line.specs.Line.{sent, heard}
 use Rattle.line.proofs.Parity.{sent-keeps}
 use Rattle.text.specs.Writing.{fits, text, accepted, written}
 use Rattle.phases.specs.Phases.{waiting}
@@ -28,11 +26,12 @@ use Rattle.block.specs.declared.Verdict.the-variants.{Store, Refuse}
 use Rattle.block.proofs.Laws.{verdict-stores}
 use Rattle.rkc.specs.declared.Link.{Link}
 use Rattle.rkc.specs.State.{used, inLimits}
-use Rattle.rkc.specs.Outcome.{Step, Outcome, quit, dataReply, itemSent, polled, judged, keeping, performed, asked, handedBack, received}
+use Rattle.rkc.specs.Outcome.{Step, Outcome, quit, dataReply, itemSent, judged, keeping, performed, asked, handedBack, received}
 use Rattle.rkc.specs.Outcome.{silent, leastBuffer, goodSettings, byteFault, elapsed, patience, timedOut, idleFault, idled}
 use Rattle.rkc.specs.Demands.{allKeep, OfByte, OfIdle, stateText, OfAlarms}
 use Rattle.rkc.proofs.Cases.{call-state, call-none, byte-call, byte-none, received-fault, received-fine, idled-fault, idled-fine}
 use Rattle.rkc.proofs.Limits.{used-small, asked-limited, performed-limits, used-in-limits}
+use Rattle.rkc.proofs.Replies.{received-reply, idled-reply}
 
 -- ---- what an act leaves of the table
 
@@ -62,7 +61,7 @@ module _ (l : Link) (t : List ℤ) (structure time : ℕ) where
   leaves (Send item) P same new = same
   leaves (Judge c) P same new = stored-only c P same new
 
--- ---- what an act sends
+-- ---- what is sent
 
 sent-all-keep : (structure : ℕ) (cs : List ℕ) → allKeep structure (map (sent structure) cs) ≡ true
 sent-all-keep structure [] = refl
@@ -70,33 +69,6 @@ sent-all-keep structure (c ∷ cs) = rw (sent-keeps structure c) (sent-all-keep 
 
 one-keeps : (structure c : ℕ) → allKeep structure (sent structure c ∷ []) ≡ true
 one-keeps structure c = rw (sent-keeps structure c)
-
-item-keeps : (structure time : ℕ) (t : List ℤ) (i : ℕ) → allKeep structure (itemSent structure time t i .reply) ≡ true
-unfolding itemSent
-item-keeps structure time t i =
-    chosen (λ (s : Step). allKeep structure (s .reply) ≡ true) (eqb (written 6 (itemAt i .decimals) (table.answered t i) .number) none)
-    (λ _. sent-all-keep structure (dataReply i (written 6 (itemAt i .decimals) (table.answered t i) .chars)))
-    (λ _. one-keeps structure EOT)
-
-performed-keeps : (l : Link) (t : List ℤ) (structure time : ℕ) (x : Act) → allKeep structure (performed l t structure time x .step .reply) ≡ true
-unfolding performed
-performed-keeps l t structure time (Go phase) = refl
-performed-keeps l t structure time (First a) = refl
-performed-keeps l t structure time (Both a b) = refl
-performed-keeps l t structure time (More c) = refl
-performed-keeps l t structure time Ended = refl
-performed-keeps l t structure time (Quit number) = one-keeps structure EOT
-performed-keeps l t structure time (Poll a b) = by (found a b)
-  where
-    by : (f : Found) → allKeep structure (polled structure time t f .reply) ≡ true
-    by (At i) = item-keeps structure time t i
-    by Nothing = one-keeps structure EOT
-performed-keeps l t structure time (Send item) = item-keeps structure time t (item - 1)
-performed-keeps l t structure time (Judge c) = by (verdict (l .mark) (l .bcc) (l .count) (l .kept) c)
-  where
-    by : (v : Verdict) → allKeep structure (judged structure t v .step .reply) ≡ true
-    by (Store i v) = one-keeps structure ACK
-    by (Refuse n) = one-keeps structure NAK
 
 -- ---- one received byte
 
@@ -144,8 +116,8 @@ module _ (l : Link) (t : List ℤ) (buffer address structure time byte : ℕ) wh
         let f = fine z in
         let g = good-after (eq-eqb _ _ (byte-none l t buffer address structure z .0)) in
         no-fault _ _ buffer address structure (eqb-true _ _ g) (f .0) (f .1) (after z);
-    keepsStructure = by-outcome (λ (o : Outcome). allKeep structure (o .step .reply) ≡ true) (λ n. refl)
-        (λ z. performed-keeps (used l) t structure time _);
+    keepsStructure = received-reply (λ (r : List ℕ). allKeep structure r ≡ true) structure refl (one-keeps structure)
+        (λ i six e. sent-all-keep structure (dataReply i six)) l t buffer address time byte;
   }
 
 -- ---- an idle call
@@ -180,7 +152,8 @@ module _ (l : Link) (buffer structure time : ℕ) where
     refusalLeavesAll = λ n. rw (idled-fault l buffer structure time refl n) (refl, refl);
     staysInLimits = λ z. idle-after z;
     runsOn = λ z. let f = idle-fine z in call-state _ buffer (leb structure 2) (f .0) (f .1) (sym (idle-after z));
-    keepsStructure = by-step (λ (s : Step). allKeep structure (s .reply) ≡ true) (λ n. refl) (λ z. one-keeps structure EOT) (λ z. refl);
+    keepsStructure = idled-reply (λ (r : List ℕ). allKeep structure r ≡ true) structure refl (one-keeps structure)
+        (λ i six e. sent-all-keep structure (dataReply i six)) l buffer time;
   }
 
 -- ---- the alarm states on the line

@@ -3,5 +3,6 @@ pub mod Bytes
 pub mod Used
 pub mod Cases
 pub mod Limits
+pub mod Replies
 pub mod Demands
 pub mod Single

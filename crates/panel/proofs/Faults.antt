@@ -1,73 +1,25 @@
--- What the steps of the link hand back, as far as holding it needs: a short reply, and never a state of another length unless
--- with a fault.
+-- What the steps of the link hand back is never for bytes of another length, unless with one of the caller's faults.
 -- Assumes nothing.
 use mathlib.Core.Path.{_≡_, refl, sym, _∙_}
-use mathlib.Core.Bool.{Bool, true, false, cond, _&&_}
+use mathlib.Core.Bool.{Bool, true, false, cond}
 use mathlib.Core.List.{List}
 use Prim.Native.Nat.{ℕ, _≤_}
 use native.Mathlib.Omega.{arith}
 use borrow.Author.Tests.{eqb-true, eqb-false, le-leb}
 use lib.Dec.{eqb, leb}
 use lib.IntN.{ℤ}
-use lib.ListN.{length, length-append, length-map}
+use lib.ListN.{length}
 use Rattle.sign.proofs.Laws.{contrary}
 use Rattle.sign.proofs.Choice.{chosen}
-use Rattle.items.specs.declared.Found.{Found}
-use Rattle.items.specs.declared.Found.the-variants.{At, Nothing}
-use Rattle.items.specs.ItemList.{items, itemList, itemAt, found}
-use Rattle.items.specs.Table.{none, wrongLength, allInRange, tableFault, answered}
-use Rattle.text.specs.Writing.{written}
-use Rattle.text.proofs.Texts.{written-length}
-use Rattle.phases.specs.Phases.{waiting}
-use Rattle.phases.specs.declared.Act.{Act}
-use Rattle.phases.specs.declared.Act.the-variants.{Go, First, Both, More, Ended, Quit, Poll, Send, Judge}
-use Rattle.block.specs.Block.{verdict}
-use Rattle.block.specs.declared.Verdict.{Verdict}
-use Rattle.block.specs.declared.Verdict.the-variants.{Store, Refuse}
+use Rattle.items.specs.ItemList.{items, itemList}
+use Rattle.items.specs.Table.{none, wrongLength, allInRange, tableFault}
 use Rattle.rkc.specs.declared.Link.{Link}
-use Rattle.rkc.specs.State.{inPhase, used, inLimits}
-use Rattle.rkc.specs.Outcome.{Step, Outcome, dataReply, itemSent, polled, judged, performed, received}
-use Rattle.rkc.specs.Outcome.{unless, leastBuffer, shortBuffer, badSetting, badState, callFault, goodSettings, byteFault, elapsed, patience, idleFault, passed, idled}
+use Rattle.rkc.specs.State.{inPhase, inLimits}
+use Rattle.rkc.specs.Outcome.{Step, Outcome, received}
+use Rattle.rkc.specs.Outcome.{unless, leastBuffer, shortBuffer, badSetting, badState, callFault, goodSettings, byteFault, idleFault, idled}
 use Rattle.rkc.proofs.Cases.{byte-none, call-none}
 use Rattle.state.specs.State.{stateBytes, fields, unknownPhase, unpacked}
 use Rattle.panel.specs.Calls.{isCallFault}
-use Rattle.panel.specs.Promise.{longestReply}
-
--- ---- a step's reply
-
-abbrev Short : Step → Type 0
-Short s = length (s .reply) ≤ longestReply
-
-item-short : (structure time : ℕ) (t : List ℤ) (i : ℕ) → Short (itemSent structure time t i)
-unfolding itemSent dataReply
-item-short structure time t i =
-    chosen Short (eqb (written 6 (itemAt i .decimals) (answered t i) .number) none)
-    (λ _. simp (length-map, length-append, written-length 6 (itemAt i .decimals) (answered t i) (omega arith)) (omega arith))
-    (λ _. omega arith)
-
-polled-short : (structure time : ℕ) (t : List ℤ) (f : Found) → Short (polled structure time t f)
-polled-short structure time t (At i) = item-short structure time t i
-polled-short structure time t Nothing = omega arith
-
-judged-short : (structure : ℕ) (t : List ℤ) (v : Verdict) → Short (judged structure t v .step)
-judged-short structure t (Store i v) = omega arith
-judged-short structure t (Refuse n) = omega arith
-
-performed-short : (l : Link) (t : List ℤ) (structure time : ℕ) (x : Act) → Short (performed l t structure time x .step)
-unfolding performed
-performed-short l t structure time (Go phase) = omega arith
-performed-short l t structure time (First a) = omega arith
-performed-short l t structure time (Both a b) = omega arith
-performed-short l t structure time (More c) = omega arith
-performed-short l t structure time Ended = omega arith
-performed-short l t structure time (Quit number) = omega arith
-performed-short l t structure time (Poll a b) = polled-short structure time t (found a b)
-performed-short l t structure time (Send item) = item-short structure time t _
-performed-short l t structure time (Judge c) = judged-short structure t (verdict (l .mark) (l .bcc) (l .count) (l .kept) c)
-
-passed-short : (l : Link) (structure time : ℕ) → Short (passed l structure time)
-passed-short l structure time =
-    chosen Short (eqb (l .phase) waiting && leb patience (elapsed time (l .time))) (λ _. omega arith) (λ _. omega arith)
 
 -- ---- the caller's faults are numbered up to that of a bad state
 
@@ -127,13 +79,6 @@ module _ (s : List ℕ) (f : ℕ) (most : UpToLast f) (fine : f ≡ none → inL
 -- ---- the two calls
 
 module _ (s : List ℕ) (t : List ℤ) (buffer address structure time byte : ℕ) where
-  pub received-short : length (received (unpacked s) t buffer address structure time byte .step .reply) ≤ longestReply
-  unfolding received
-  received-short =
-      chosen (λ (o : Outcome). Short (o .step)) (eqb (byteFault (unpacked s) t buffer address structure) none)
-      (λ _. performed-short _ t structure time _)
-      (λ _. omega arith)
-
   pub received-whole : isCallFault (received (unpacked s) t buffer address structure time byte .step .number) ≡ false → length s ≡ stateBytes
   unfolding received
   received-whole =
@@ -141,11 +86,6 @@ module _ (s : List ℕ) (t : List ℤ) (buffer address structure time byte : ℕ
       (λ z. call-none _ _ _ (byte-none _ _ _ _ _ z .1) .2) (λ (o : Outcome). o .step .number) _ _ refl
 
 module _ (s : List ℕ) (buffer structure time : ℕ) where
-  pub idled-short : length (idled (unpacked s) buffer structure time .reply) ≤ longestReply
-  unfolding idled
-  idled-short =
-      chosen Short (eqb (idleFault (unpacked s) buffer structure) none) (λ _. passed-short (used (unpacked s)) structure time) (λ _. omega arith)
-
   pub idled-whole : isCallFault (idled (unpacked s) buffer structure time .number) ≡ false → length s ≡ stateBytes
   unfolding idled idleFault
   idled-whole =
