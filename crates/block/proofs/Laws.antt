@@ -54,7 +54,7 @@ sound-if true number next r s = r
 sound-if false number next r s = s refl
 
 -- number text takes the decimals of every item
-few-decimals : (i : ℕ) → i < items → itemAt i .decimals ≤ mostDecimals
+pub few-decimals : (i : ℕ) → i < items → itemAt i .decimals ≤ mostDecimals
 few-decimals i h = leb-true _ _ (passes-at (λ (k : ℕ). leb (itemAt k .decimals) mostDecimals) items i refl h)
 
 -- so what is read for an item is a value, too long or no number

@@ -1,29 +1,32 @@
 -- Demand 1 for the RKC line, and that a link runs for ever and answers in the line's structure: theorems about `received` and
--- `idled` for whatever is handed in. The claims stand in specs/Demands.antt.
+-- `idled` for whatever is handed in. Their claims stand in specs/Demands.antt. And an item of a good table is always sent.
 -- Assumes nothing.
 use mathlib.Core.Path.{_≡_, refl, sym, _∙_}
 use mathlib.Core.Bool.{Bool, true, false, _&&_}
 use mathlib.Core.List.{List, [], _∷_, map}
-use Prim.Native.Nat.{ℕ, _≤_}
+use Prim.Native.Nat.{ℕ, _<_, _≤_}
 use borrow.Author.Tests.{eq-eqb, eqb-true, eqb-false}
 use lib.Dec.{eqb, leb}
-use lib.IntN.{ℤ}
+use lib.IntN.{ℤ, pos}
 use lib.Signed.{leZ}
-use Rattle.sign.proofs.Choice.{chosen}
-use Rattle.items.specs.ItemList.{itemAt}
+use Rattle.sign.proofs.Choice.{both, chosen}
+use Rattle.items.specs.ItemList.{Item, items, itemAt}
 use Rattle.items.specs.Table as table
 use Rattle.items.specs.Table.{none, tableFault, goodTable, entry}
-use Rattle.items.proofs.Laws.{good-stored, stored-read-only, answered-AA, answered-AB}
+use Rattle.items.proofs.Lists.{passes, passes-at}
+use Rattle.items.proofs.Laws.{good-entry, good-stored, stored-read-only, answered-AA, answered-AB}
 use Rattle.line.specs.Line.{sent, heard}
 use Rattle.line.proofs.Parity.{sent-keeps}
 use Rattle.text.specs.Writing.{fits, text, accepted, written}
+use Rattle.text.proofs.Limits.{between-fits}
+use Rattle.text.proofs.Texts.{fitting}
 use Rattle.phases.specs.Phases.{waiting}
 use Rattle.phases.specs.declared.Act.{Act}
 use Rattle.phases.specs.declared.Act.the-variants.{Go, First, Both, More, Ended, Quit, Poll, Send, Judge}
 use Rattle.block.specs.Block.{verdict}
 use Rattle.block.specs.declared.Verdict.{Verdict}
 use Rattle.block.specs.declared.Verdict.the-variants.{Store, Refuse}
-use Rattle.block.proofs.Laws.{verdict-stores}
+use Rattle.block.proofs.Laws.{few-decimals, verdict-stores}
 use Rattle.rkc.specs.declared.Link.{Link}
 use Rattle.rkc.specs.State.{used, inLimits}
 use Rattle.rkc.specs.Outcome.{Step, Outcome, quit, dataReply, itemSent, judged, keeping, performed, asked, handedBack, received}
@@ -171,3 +174,33 @@ alarms-polled structure time t = record {
   polledAA = rw (answered-AA t, alarm-text t table.A1 _ refl);
   polledAB = rw (answered-AB t, alarm-text t table.A2 _ refl);
 }
+
+-- ---- an item of a good table is always sent: its answer fits six characters, so that 46 is not met
+
+module _ (i : ℕ) (h : i < items) where
+  abbrev FitsSix : ℤ → Type 0
+  FitsSix v = fits 6 (itemAt i .decimals) v ≡ true
+
+  -- a number of each line of the list, by a test that the whole list passes
+  line-fits : (f : Item → ℤ) → passes (λ (k : ℕ). fits 6 (itemAt k .decimals) (f (itemAt k))) items ≡ true → FitsSix (f (itemAt i))
+  line-fits f e = passes-at (λ (k : ℕ). fits 6 (itemAt k .decimals) (f (itemAt k))) items i e h
+
+  state-fits : (t : List ℤ) (limit : ℕ) → FitsSix (table.alarm t limit)
+  unfolding table.alarm fits
+  state-fits t limit = chosen FitsSix (leZ (entry t limit) (entry t table.M1)) (λ _. line-fits (λ x. pos 1) refl) (λ _. line-fits (λ x. pos 0) refl)
+
+  entry-fits : (t : List ℤ) → goodTable t ≡ true → FitsSix (entry t i)
+  unfolding table.inRange fits
+  entry-fits t g =
+      let r = both (leZ (itemAt i .low) (entry t i)) (leZ (entry t i) (itemAt i .high)) (good-entry t i g h) in
+      between-fits 6 (itemAt i .decimals) (itemAt i .low) (itemAt i .high) (entry t i) (r .0) (r .1) (line-fits (λ x. x .low) refl) (line-fits (λ x. x .high) refl)
+
+  answered-fits : (t : List ℤ) → goodTable t ≡ true → FitsSix (table.answered t i)
+  unfolding table.answered
+  answered-fits t g =
+      chosen FitsSix (eqb i table.AA) (λ _. state-fits t table.A1)
+      (λ _. chosen FitsSix (eqb i table.AB) (λ _. state-fits t table.A2) (λ _. entry-fits t g))
+
+  pub always-sent : (structure time : ℕ) (t : List ℤ) → goodTable t ≡ true → itemSent structure time t i .number ≡ none
+  unfolding itemSent
+  always-sent structure time t g = rw (fitting 6 (itemAt i .decimals) (table.answered t i) (few-decimals i h) (answered-fits t g))
