@@ -69,7 +69,7 @@ all-set (x ∷ xs) (w ∷ t) (suc i) v a r =
 
 pub stored-length : (t : List ℤ) (i : ℕ) (v : ℤ) → length (stored t i v) ≡ length t
 unfolding stored
-stored-length t i v = length-set t i v
+stored-length t i v = length-set t i _
 
 -- a good table stays good after a store in range
 pub good-stored : (t : List ℤ) (i : ℕ) (v : ℤ) → goodTable t ≡ true → inRange i v ≡ true → goodTable (stored t i v) ≡ true
