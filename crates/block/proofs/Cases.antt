@@ -14,13 +14,13 @@ use lib.Seq.{length-take-le, take-add, drop-at}
 use Rattle.line.specs.Line.{isLineError}
 use Rattle.items.specs.ItemList.{itemAt, found}
 use Rattle.items.specs.Table.{inRange}
-use Rattle.text.specs.Numbers.{numberOf}
+use Rattle.text.specs.Numbers.{width, numberOf}
 use Rattle.text.specs.Reading.{reading}
 use Rattle.text.specs.declared.Reading.{Reading}
 use Rattle.text.specs.declared.Reading.the-variants.{Value, TooLong}
 use Rattle.text.proofs.Reading.{the-type}
 use Rattle.text.proofs.Refusals.{no-value}
-use Rattle.block.specs.Block.{lineError, wrongBcc, underTwo, readOnly, outOfRange, identifier, width, mostKept, dataCharacters, readData, valueFor, forItem, forFound, verdict}
+use Rattle.block.specs.Block.{lineError, wrongBcc, underTwo, readOnly, outOfRange, identifierLength, mostKept, dataCharacters, readData, valueFor, forItem, forFound, verdict}
 use Rattle.block.specs.declared.Verdict.the-variants.{Store, Refuse}
 
 -- ---- before the item is known
@@ -35,25 +35,25 @@ module _ (mark : Bool) (bcc count : ℕ) (kept : List ℕ) (c : ℕ) where
     unfolding verdict
     wrong-bcc h = rw (heard, ne-eqb c bcc h)
 
-    pub under-two : c ≡ bcc → count < identifier → Refuse underTwo ≡ verdict mark bcc count kept c
+    pub under-two : c ≡ bcc → count < identifierLength → Refuse underTwo ≡ verdict mark bcc count kept c
     unfolding verdict
-    under-two e h = rw (heard, eq-eqb c bcc e, lt-ltb count identifier h)
+    under-two e h = rw (heard, eq-eqb c bcc e, lt-ltb count identifierLength h)
 
-    pub by-identifier : c ≡ bcc → identifier ≤ count
+    pub by-identifier : c ≡ bcc → identifierLength ≤ count
         → forFound (found (getD kept 0 0) (getD kept 1 0)) count kept ≡ verdict mark bcc count kept c
     unfolding verdict
-    by-identifier e h = rw (heard, eq-eqb c bcc e, le-ltb count identifier h)
+    by-identifier e h = rw (heard, eq-eqb c bcc e, le-ltb count identifierLength h)
 
 -- ---- the data characters
 
 -- what is kept past the identifier, as many as the count has more
-pub data-part : (count : ℕ) (kept : List ℕ) → identifier ≤ count → identifier ≤ length kept
-    → take (count - identifier) (drop identifier kept) ≡ dataCharacters count kept
+pub data-part : (count : ℕ) (kept : List ℕ) → identifierLength ≤ count → identifierLength ≤ length kept
+    → take (count - identifierLength) (drop identifierLength kept) ≡ dataCharacters count kept
 data-part count kept h k =
-    let more = count - identifier in
-    let e : identifier + more ≡ count = omega arith in
-    sym (drop-at (take identifier kept) (take more (drop identifier kept)) identifier (length-take-le identifier kept k))
-    ∙ ap (drop identifier) (sym (take-add identifier more kept) ∙ ap (λ (n : ℕ). take n kept) e)
+    let more = count - identifierLength in
+    let e : identifierLength + more ≡ count = omega arith in
+    sym (drop-at (take identifierLength kept) (take more (drop identifierLength kept)) identifierLength (length-take-le identifierLength kept k))
+    ∙ ap (drop identifierLength) (sym (take-add identifierLength more kept) ∙ ap (λ (n : ℕ). take n kept) e)
 
 module _ (d count : ℕ) (kept : List ℕ) where
   pub too-long : mostKept < count → TooLong ≡ readData d count kept

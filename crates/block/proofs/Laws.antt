@@ -17,12 +17,12 @@ use Rattle.items.specs.declared.Found.{Found}
 use Rattle.items.specs.declared.Found.the-variants.{At, Nothing}
 use Rattle.items.proofs.Laws.{found-place}
 use Rattle.items.proofs.Lists.{passes-at}
-use Rattle.text.specs.Numbers.{mostDecimals}
+use Rattle.text.specs.Numbers.{width, mostDecimals}
 use Rattle.text.specs.Characters.{minusSign}
 use Rattle.text.specs.Reading.{allDigits, pointAt, ofUnsigned, ofText, reading}
 use Rattle.text.specs.declared.Reading.{Reading}
 use Rattle.text.specs.declared.Reading.the-variants.{Value, TooLong, NoNumber}
-use Rattle.block.specs.Block.{lineError, wrongBcc, underTwo, readOnly, outOfRange, identifier, width, mostKept, refuseIf, dataCharacters, readData, valueFor, forItem, forFound, verdict}
+use Rattle.block.specs.Block.{lineError, wrongBcc, underTwo, readOnly, outOfRange, identifierLength, mostKept, refuseIf, dataCharacters, readData, valueFor, forItem, forFound, verdict}
 use Rattle.block.specs.declared.Verdict.{Verdict}
 use Rattle.block.specs.declared.Verdict.the-variants.{Store, Refuse}
 
@@ -97,7 +97,7 @@ module _ (mark : Bool) (bcc count : ℕ) (kept : List ℕ) (c : ℕ) where
   sound =
       sound-if (mark || isLineError c) lineError _ refl
       (λ h. sound-if (not (eqb c bcc)) wrongBcc _ refl
-      (λ e. sound-if (ltb count identifier) underTwo _ refl
+      (λ e. sound-if (ltb count identifierLength) underTwo _ refl
       (λ n. sound-found (getD kept 0 0) (getD kept 1 0) _ count kept refl)))
 
   pub verdict-stores : (i : ℕ) (v : ℤ) → verdict mark bcc count kept c ≡ Store i v → Storable i v

@@ -9,7 +9,7 @@ use Rattle.items.specs.ItemList.{itemAt, found}
 use Rattle.items.specs.Table.{inRange}
 use Rattle.items.specs.declared.Found.{Found}
 use Rattle.items.specs.declared.Found.the-variants.{At, Nothing}
-use Rattle.text.specs.Numbers.{numberOf}
+use Rattle.text.specs.Numbers.{width, numberOf}
 use Rattle.text.specs.Reading.{reading}
 use Rattle.text.specs.declared.Reading.{Reading}
 use Rattle.text.specs.declared.Reading.the-variants.{Value, Decimals, TooLong, NoNumber}
@@ -35,15 +35,12 @@ readOnly = 17
 abbrev pub outOfRange : ℕ
 outOfRange = 18
 
--- how many characters an identifier has and a number may have; a block keeps so many together
-abbrev pub identifier : ℕ
-identifier = 2
-
-abbrev pub width : ℕ
-width = 6
+-- how many characters an identifier has; a block keeps it and a number
+abbrev pub identifierLength : ℕ
+identifierLength = 2
 
 abbrev pub mostKept : ℕ
-mostKept = identifier + width
+mostKept = identifierLength + width
 
 -- a fault refuses the block by its number; without it the next test decides
 abbrev pub refuseIf : Bool → ℕ → Verdict → Verdict
@@ -51,7 +48,7 @@ refuseIf fault number next = cond fault (Refuse number) next
 
 -- the data characters: the kept ones after the identifier, up to the count
 abbrev pub dataCharacters : ℕ → List ℕ → List ℕ
-dataCharacters count kept = drop identifier (take count kept)
+dataCharacters count kept = drop identifierLength (take count kept)
 
 -- what they say of a value with d decimals: over six of them came where the block has more than are kept
 abbrev pub readData : ℕ → ℕ → List ℕ → Reading
@@ -82,5 +79,5 @@ unfoldable pub verdict : Bool → ℕ → ℕ → List ℕ → ℕ → Verdict
 verdict mark bcc count kept c =
     refuseIf (mark || isLineError c) lineError
     (refuseIf (not (eqb c bcc)) wrongBcc
-    (refuseIf (ltb count identifier) underTwo
+    (refuseIf (ltb count identifierLength) underTwo
     (forFound (found (getD kept 0 0) (getD kept 1 0)) count kept)))

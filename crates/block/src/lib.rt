@@ -4,7 +4,7 @@ use items::Found;
 use text::Reading;
 ghost use mathlib.Core.Path.{_≡_};
 ghost use Prim.Native.Nat.{_≤_};
-ghost use Rattle.block.specs.Block.{identifier, readData, forItem, verdict};
+ghost use Rattle.block.specs.Block.{identifierLength, readData, forItem, verdict};
 
 // What becomes of a block: the item at this place of the list takes this value, or the block is refused by this number.
 pub enum Verdict {
@@ -26,25 +26,25 @@ pub const READ_ONLY: u8 = 17;
 pub const OUT_OF_RANGE: u8 = 18;
 
 // How many characters an identifier has, and how many of a block are kept: the identifier and six more.
-const IDENTIFIER: u8 = 2;
+const IDENTIFIER_LENGTH: u8 = 2;
 
 const MOST_KEPT: u8 = 8;
 
 // What the data characters say of a value with so many decimals: too long where more came than are kept.
 fn read_data(decimals: u8, count: u8, kept: [u8; 8]) -> Reading
-    requires { ⌜ identifier ≤ count ⌝ }
+    requires { ⌜ identifierLength ≤ count ⌝ }
     ensures { λ r. ⌜ r ≡ readData decimals count kept ⌝ }
 {
     if MOST_KEPT < count {
         return Reading::TooLong;
     }
     let end = count as usize;
-    text::read(decimals, &kept[IDENTIFIER as usize..end])
+    text::read(decimals, &kept[IDENTIFIER_LENGTH as usize..end])
 }
 
 // The verdict on the data characters for the item at a place: their text, then the item's kind, then its range.
 fn for_item(i: usize, count: u8, kept: [u8; 8]) -> Verdict
-    requires { ⌜ identifier ≤ count ⌝ }
+    requires { ⌜ identifierLength ≤ count ⌝ }
     ensures { λ r. ⌜ r ≡ forItem i count kept ⌝ }
 {
     let read = read_data(items::decimals(i), count, kept);
@@ -73,7 +73,7 @@ pub fn judge(mark: bool, bcc: u8, count: u8, kept: [u8; 8], c: u8) -> Verdict
     if c != bcc {
         return Verdict::Refuse(WRONG_BCC);
     }
-    if count < IDENTIFIER {
+    if count < IDENTIFIER_LENGTH {
         return Verdict::Refuse(UNDER_TWO);
     }
     let Found::At(i) = items::find(kept[0], kept[1]) else {

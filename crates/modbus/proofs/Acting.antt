@@ -8,7 +8,7 @@ use lib.IntN.{ℤ}
 use lib.ListN.{length}
 use Rattle.modbus.specs.declared.Answered.{Answered}
 use Rattle.modbus.specs.Outcome.{shortBuffer, otherAddress, unknownFunction, addressOf, functionOf, silent, exception}
-use Rattle.modbus.specs.Rules.{readRegisters, writeRegister, loopback, reading, writing, loopingBack, obeying, acted, bufferLength, actedWithin}
+use Rattle.modbus.specs.Rules.{readRegisters, writeRegister, loopback, reading, writing, loopingBack, obeying, acted, leastBuffer, actedWithin}
 use Rattle.modbus.specs.Promise.{Gives}
 
 module _ (t : List ℤ) (body : List ℕ) where
@@ -43,13 +43,13 @@ module _ (t : List ℤ) (address : ℕ) (body : List ℕ) where
   unfolding acted
   acted-other h e = rw (le-leb 2 (length body) h, ne-eqb (addressOf body) address e)
 
-  pub within-room : (room : ℕ) → bufferLength ≤ room → actedWithin t room address body ≡ acted t address body
+  pub within-room : (room : ℕ) → leastBuffer ≤ room → actedWithin t room address body ≡ acted t address body
   unfolding actedWithin
-  within-room room h = rw (le-leb bufferLength room h)
+  within-room room h = rw (le-leb leastBuffer room h)
 
-  pub without-room : (room : ℕ) → room < bufferLength → actedWithin t room address body ≡ silent shortBuffer t
+  pub without-room : (room : ℕ) → room < leastBuffer → actedWithin t room address body ≡ silent shortBuffer t
   unfolding actedWithin
-  without-room room h = rw (lt-leb bufferLength room h)
+  without-room room h = rw (lt-leb leastBuffer room h)
 
 -- silence leaves the buffer and the table
 pub gives-silence : (number : ℕ) (t : List ℤ) (buffer : List ℕ) (r : Answered) → r ≡ record { number = number; len = 0 }

@@ -126,8 +126,8 @@ unfoldable pub acted : List ℤ → ℕ → List ℕ → Outcome
 acted table address body = cond (ours address body) (obeying table body) (silent otherAddress table)
 
 -- every reply, with the bytes that a line adds, has room in a buffer of 256 bytes; a shorter buffer is refused before all else
-abbrev pub bufferLength : ℕ
-bufferLength = 256
+abbrev pub leastBuffer : ℕ
+leastBuffer = 256
 
 unfoldable pub actedWithin : List ℤ → ℕ → ℕ → List ℕ → Outcome
-actedWithin table room address body = cond (leb bufferLength room) (acted table address body) (silent shortBuffer table)
+actedWithin table room address body = cond (leb leastBuffer room) (acted table address body) (silent shortBuffer table)

@@ -8,7 +8,7 @@ ghost use lib.Seq.{sets};
 ghost use Rattle.items.specs.Table.{none};
 ghost use Rattle.modbus.specs.Register.{toRegister, ofRegister, word, registerAt, registersFrom};
 ghost use Rattle.modbus.specs.Outcome.{topBitSet, exceptionReply};
-ghost use Rattle.modbus.specs.Rules.{bodyLength, firstWord, secondWord, inMap, readFault, readReply, reading, placeOf, writeFault, written, writing, loopbackFault, loopingBack, obeying, bufferLength, actedWithin};
+ghost use Rattle.modbus.specs.Rules.{bodyLength, firstWord, secondWord, inMap, readFault, readReply, reading, placeOf, writeFault, written, writing, loopbackFault, loopingBack, obeying, leastBuffer, actedWithin};
 ghost use Rattle.modbus.specs.Promise.{Sends, Gives};
 use items::Found;
 
@@ -19,7 +19,7 @@ pub struct Answered {
 }
 
 // The least room that a reply is given.
-pub const BUFFER_LENGTH: usize = 256;
+pub const LEAST_BUFFER: usize = 256;
 
 // Numbers given back.
 pub const SHORT_BUFFER: u8 = 3;
@@ -113,7 +113,7 @@ fn top_bit_set(function: u8) -> u8
 
 // The exception that goes with a number: 31, 32 and 33 are exceptions 1, 2 and 3.
 fn exception(reply: &mut [u8], body: &[u8], number: u8) -> Answered
-    requires { ⌜ (bufferLength ≤ length (now reply)) × (2 ≤ length (now body)) × (30 ≤ number) ⌝ }
+    requires { ⌜ (leastBuffer ≤ length (now reply)) × (2 ≤ length (now body)) × (30 ≤ number) ⌝ }
     ensures { λ r. ⌜ Sends number (exceptionReply number (now (body .entry))) r (now (reply .entry)) (now (reply .exit)) ⌝ }
 {
     reply[0] = body[0];
@@ -179,7 +179,7 @@ fn put_registers(table: &[i32], reply: &mut [u8], start: u16, quantity: u16)
 
 // The reply to a request to read that meets no fault.
 fn send_registers(table: &[i32], reply: &mut [u8], body: &[u8]) -> Answered
-    requires { ⌜ (bufferLength ≤ length (now reply)) × (readFault (now body) ≡ none) ⌝ }
+    requires { ⌜ (leastBuffer ≤ length (now reply)) × (readFault (now body) ≡ none) ⌝ }
     ensures { λ r. ⌜ Sends none (readReply (now (table .entry)) (now (body .entry))) r (now (reply .entry)) (now (reply .exit)) ⌝ }
 {
     let start = first_word(body);
@@ -194,7 +194,7 @@ fn send_registers(table: &[i32], reply: &mut [u8], body: &[u8]) -> Answered
 
 // Registers are read.
 fn read(table: &[i32], reply: &mut [u8], body: &[u8]) -> Answered
-    requires { ⌜ (bufferLength ≤ length (now reply)) × (2 ≤ length (now body)) ⌝ }
+    requires { ⌜ (leastBuffer ≤ length (now reply)) × (2 ≤ length (now body)) ⌝ }
     ensures { λ r. ⌜ Gives (reading (now (table .entry)) (now (body .entry))) r (now (reply .entry)) (now (reply .exit)) (now (table .entry)) ⌝ }
 {
     let fault = read_fault(body);
@@ -249,7 +249,7 @@ fn store_value(table: &mut [i32], body: &[u8])
 
 // A register is written.
 fn write(table: &mut [i32], reply: &mut [u8], body: &[u8]) -> Answered
-    requires { ⌜ (bufferLength ≤ length (now reply)) × (2 ≤ length (now body)) ⌝ }
+    requires { ⌜ (leastBuffer ≤ length (now reply)) × (2 ≤ length (now body)) ⌝ }
     ensures { λ r. ⌜ Gives (writing (now (table .entry)) (now (body .entry))) r (now (reply .entry)) (now (reply .exit)) (now (table .exit)) ⌝ }
 {
     let fault = write_fault(body);
@@ -274,7 +274,7 @@ fn loopback_fault(body: &[u8]) -> u8
 
 // The request comes back.
 fn loop_back(reply: &mut [u8], body: &[u8]) -> Answered
-    requires { ⌜ (bufferLength ≤ length (now reply)) × (2 ≤ length (now body)) ⌝ }
+    requires { ⌜ (leastBuffer ≤ length (now reply)) × (2 ≤ length (now body)) ⌝ }
     ensures { λ r. ⌜ ((t : List ℤ) → Gives (loopingBack t (now (body .entry))) r (now (reply .entry)) (now (reply .exit)) t) ⌝ }
 {
     let fault = loopback_fault(body);
@@ -288,7 +288,7 @@ fn loop_back(reply: &mut [u8], body: &[u8]) -> Answered
 
 // The function decides.
 fn obey(table: &mut [i32], reply: &mut [u8], body: &[u8]) -> Answered
-    requires { ⌜ (bufferLength ≤ length (now reply)) × (2 ≤ length (now body)) ⌝ }
+    requires { ⌜ (leastBuffer ≤ length (now reply)) × (2 ≤ length (now body)) ⌝ }
     ensures { λ r. ⌜ Gives (obeying (now (table .entry)) (now (body .entry))) r (now (reply .entry)) (now (reply .exit)) (now (table .exit)) ⌝ }
 {
     let function = body[1];
@@ -311,7 +311,7 @@ fn silent(number: u8) -> Answered
 pub fn respond(table: &mut [i32], reply: &mut [u8], address: u8, body: &[u8]) -> Answered
     ensures { λ r. ⌜ Gives (actedWithin (now (table .entry)) (length (now (reply .entry))) address (now (body .entry))) r (now (reply .entry)) (now (reply .exit)) (now (table .exit)) ⌝ }
 {
-    if reply.len() < BUFFER_LENGTH {
+    if reply.len() < LEAST_BUFFER {
         return silent(SHORT_BUFFER);
     }
     if body.len() < 2 {

@@ -9,10 +9,11 @@ use Rattle.sign.proofs.Single.{single}
 use Rattle.items.specs.Table.{startNumber, startTable, putNumber, putTable}
 use Rattle.items.specs.Promise.{Lent}
 use Rattle.items.proofs.Single.{lent-single}
+use Rattle.text.specs.Numbers.{width}
 use Rattle.text.specs.Reading.{reading}
 use Rattle.rkc.specs.Outcome.{Step, received, idled}
 use Rattle.state.specs.State.{unpacked}
-use Rattle.panel.specs.Calls.{linkStartNumber, linkStart, width, textNumber, textLeft}
+use Rattle.panel.specs.Calls.{linkStartNumber, linkStart, textNumber, textLeft}
 use Rattle.panel.specs.Promise.{LentBytes, ReadText, StepLeft, ByteLeft, FrameLeft}
 
 lent-bytes-single : {n : ℕ} {bs : List ℕ} {r q : ℕ} {u w : List ℕ} → LentBytes n bs r u → LentBytes n bs q w → (r ≡ q) × (u ≡ w)

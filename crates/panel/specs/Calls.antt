@@ -7,6 +7,7 @@ use lib.IntN.{ℤ}
 use lib.ListN.{length}
 use lib.Seq.{sets}
 use Rattle.items.specs.Table.{none, wrongLength}
+use Rattle.text.specs.Numbers.{width}
 use Rattle.text.specs.Writing.{written}
 use Rattle.phases.specs.Phases.{rest}
 use Rattle.rkc.specs.declared.Link.{Link}
@@ -36,10 +37,6 @@ abbrev pub linkStart : List ℕ → List ℕ
 linkStart s = packedInto s (inPhase rest)
 
 -- ---- writing text
-
--- as many characters as a written number has
-abbrev pub width : ℕ
-width = 6
 
 -- the room is looked at first
 abbrev pub textNumber : ℕ → ℤ → List ℕ → ℕ

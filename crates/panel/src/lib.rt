@@ -6,16 +6,14 @@ ghost use lib.ListN.{length};
 ghost use lib.Seq.{sets};
 ghost use Rattle.items.specs.Table.{startNumber, startTable, putNumber, putTable};
 ghost use Rattle.items.specs.Promise.{Lent};
+ghost use Rattle.text.specs.Numbers.{width};
 ghost use Rattle.text.specs.Reading.{reading};
 ghost use Rattle.rkc.specs.Outcome.{received, idled};
 ghost use Rattle.state.specs.State.{unpacked};
-ghost use Rattle.panel.specs.Calls.{result, isCallFault, linkStartNumber, linkStart, textNumber, textLeft, width};
+ghost use Rattle.panel.specs.Calls.{result, isCallFault, linkStartNumber, linkStart, textNumber, textLeft};
 ghost use Rattle.panel.specs.Promise.{LentBytes, ReadText, longestReply, Holdable, Held, StepLeft, ByteLeft, FrameLeft};
 use rkc::Link;
 use rkc::Stepped;
-
-// How many characters a written number has.
-const TEXT_WIDTH: usize = 6;
 
 // Numbers given back.
 const SHORT_BUFFER: u32 = 3;
@@ -150,7 +148,7 @@ fn put_six(chars: &mut [u8], six: [u8; 6])
 pub extern "C" fn vb_write_text(decimals: u8, value: i32, chars: &mut [u8]) -> u32
     ensures { λ r. ⌜ LentBytes (textNumber decimals value (now (chars .entry))) (textLeft decimals value (now (chars .entry))) r (now (chars .exit)) ⌝ }
 {
-    if chars.len() < TEXT_WIDTH {
+    if chars.len() < text::WIDTH {
         return SHORT_BUFFER;
     }
     let written = text::write(decimals, value);

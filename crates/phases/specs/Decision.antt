@@ -58,8 +58,8 @@ abbrev pub atAnswered : ℕ → Act
 atAnswered c = cond (eqb c STX) (Go text) (Go rest)
 
 -- each phase by its own rule; at rest all is ignored
-abbrev pub inPhase : ℕ → ℕ → ℕ → ℕ → ℕ → ℕ → Act
-inPhase phase first second item address c =
+abbrev pub byPhase : ℕ → ℕ → ℕ → ℕ → ℕ → ℕ → Act
+byPhase phase first second item address c =
     cond (eqb phase firstDigit) (atFirstDigit address c)
     (cond (eqb phase secondDigit) (atSecondDigit address c)
     (cond (eqb phase addressed) (atAddressed c)
@@ -75,4 +75,4 @@ unfoldable pub decided : ℕ → ℕ → ℕ → ℕ → ℕ → ℕ → Act
 decided phase first second item address c =
     cond (eqb phase bccDue) (Judge c)
     (cond (eqb c EOT) (Go firstDigit)
-    (inPhase phase first second item address c))
+    (byPhase phase first second item address c))

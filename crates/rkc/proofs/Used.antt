@@ -17,9 +17,10 @@ use Rattle.line.specs.Line.{STX, EOT, ENQ, ACK, NAK, printable, isLineError}
 use Rattle.phases.specs.Phases.{firstDigit, secondDigit, addressed, oneCharacter, twoCharacters, waiting, text, bccDue, answered, lastItem}
 use Rattle.phases.specs.Decision.{isTheDigit, astray, decided}
 use Rattle.phases.specs.declared.Act.{Act}
+use Rattle.text.specs.Numbers.{width}
 use Rattle.text.specs.Reading.{reading}
 use Rattle.text.specs.declared.Reading.the-variants.{TooLong}
-use Rattle.block.specs.Block.{lineError, wrongBcc, underTwo, identifier, width, mostKept, refuseIf, valueFor, forFound, verdict}
+use Rattle.block.specs.Block.{lineError, wrongBcc, underTwo, identifierLength, mostKept, refuseIf, valueFor, forFound, verdict}
 use Rattle.block.specs.declared.Verdict.{Verdict}
 use Rattle.rkc.specs.declared.Link.{Link}
 use Rattle.rkc.specs.State.{inPhase, holdingOne, holdingTwo, waitingOn, upTo, asBlock, inBlock, used}
@@ -62,9 +63,9 @@ module _ (count : ℕ) (kept : List ℕ) where
   found-up-to : (f : Found) → forFound f count (upTo count kept) ≡ forFound f count kept
   found-up-to Nothing = refl
   found-up-to (At i) =
-      ap (λ (l : List ℕ). valueFor i (cond (ltb mostKept count) TooLong (reading width (itemAt i .decimals) (drop identifier l)))) (up-to-take count kept)
+      ap (λ (l : List ℕ). valueFor i (cond (ltb mostKept count) TooLong (reading width (itemAt i .decimals) (drop identifierLength l)))) (up-to-take count kept)
 
-  named-up-to : identifier ≤ count
+  named-up-to : identifierLength ≤ count
       → forFound (found (getD (upTo count kept) 0 0) (getD (upTo count kept) 1 0)) count (upTo count kept) ≡ forFound (found (getD kept 0 0) (getD kept 1 0)) count kept
   named-up-to h =
       rw (up-to-at count kept 0 (omega arith), up-to-at count kept 1 (omega arith)) (found-up-to (found (getD kept 0 0) (getD kept 1 0)))
@@ -72,13 +73,13 @@ module _ (count : ℕ) (kept : List ℕ) where
   pub verdict-up-to : (mark : Bool) (sum c : ℕ) → verdict mark sum count (upTo count kept) c ≡ verdict mark sum count kept c
   unfolding verdict
   verdict-up-to mark sum c =
-      ap (λ (v : Verdict). refuseIf (mark || isLineError c) lineError (refuseIf (not (eqb c sum)) wrongBcc v)) (by (ltb count identifier) refl)
+      ap (λ (v : Verdict). refuseIf (mark || isLineError c) lineError (refuseIf (not (eqb c sum)) wrongBcc v)) (by (ltb count identifierLength) refl)
     where
-      by : (b : Bool) → ltb count identifier ≡ b
+      by : (b : Bool) → ltb count identifierLength ≡ b
           → refuseIf b underTwo (forFound (found (getD (upTo count kept) 0 0) (getD (upTo count kept) 1 0)) count (upTo count kept))
           ≡ refuseIf b underTwo (forFound (found (getD kept 0 0) (getD kept 1 0)) count kept)
       by true e = refl
-      by false e = named-up-to (ltb-false count identifier e)
+      by false e = named-up-to (ltb-false count identifierLength e)
 
 -- ---- what a character asks for
 

@@ -10,6 +10,7 @@ use Rattle.items.specs.declared.Found.the-variants.{At, Nothing}
 use Rattle.items.specs.ItemList.{itemAt, found}
 use Rattle.items.specs.Table.{none, tableFault, answered, stored}
 use Rattle.line.specs.Line.{STX, ETX, EOT, ACK, NAK, sent, heard, bcc}
+use Rattle.text.specs.Numbers.{width}
 use Rattle.text.specs.declared.Written.{Written}
 use Rattle.text.specs.Writing.{written}
 use Rattle.phases.specs.Phases as phases
@@ -81,7 +82,7 @@ withText structure time i w =
 
 -- the item at a place of the list is sent, with its value now
 unfoldable pub itemSent : ℕ → ℕ → List ℤ → ℕ → Step
-itemSent structure time t i = withText structure time i (written 6 (itemAt i .decimals) (answered t i))
+itemSent structure time t i = withText structure time i (written width (itemAt i .decimals) (answered t i))
 
 -- what an identifier names is sent; an unknown one: EOT, rest
 abbrev pub polled : ℕ → ℕ → List ℤ → Found → Step

@@ -13,9 +13,9 @@ use Rattle.sign.proofs.Choice.{both}
 use Rattle.items.specs.Table.{none, tableFault}
 use Rattle.crc.specs.Crc.{isRight}
 use Rattle.modbus.specs.Outcome.{shortBuffer}
-use Rattle.modbus.specs.Rules.{must, bufferLength}
+use Rattle.modbus.specs.Rules.{must, leastBuffer}
 use Rattle.modbus.proofs.Faults.{must-none}
-use Rattle.rtu.specs.Frame.{wrongAddress, wrongLength, wrongCrc, firstAddress, lastAddress, shortest, longest, orElse, callFault, frameFault, refusal}
+use Rattle.rtu.specs.Frame.{badSetting, wrongFrameLength, wrongCrc, firstAddress, lastAddress, shortest, longest, orElse, callFault, frameFault, refusal}
 
 -- ---- one fault, or else the next
 
@@ -43,37 +43,37 @@ module _ (t : List ℤ) (room address : ℕ) where
   unfolding callFault
   call-table h = this-fault _ _ h
 
-  pub call-room : tableFault t ≡ none → room < bufferLength → callFault t room address ≡ shortBuffer
+  pub call-room : tableFault t ≡ none → room < leastBuffer → callFault t room address ≡ shortBuffer
   unfolding callFault must
-  call-room e h = next-fault _ _ e ∙ rw (lt-leb bufferLength room h)
+  call-room e h = next-fault _ _ e ∙ rw (lt-leb leastBuffer room h)
 
-  pub call-below : tableFault t ≡ none → bufferLength ≤ room → address < firstAddress → callFault t room address ≡ wrongAddress
+  pub call-below : tableFault t ≡ none → leastBuffer ≤ room → address < firstAddress → callFault t room address ≡ badSetting
   unfolding callFault must
-  call-below e h a = next-fault _ _ e ∙ rw (le-leb bufferLength room h, lt-leb firstAddress address a)
+  call-below e h a = next-fault _ _ e ∙ rw (le-leb leastBuffer room h, lt-leb firstAddress address a)
 
-  pub call-above : tableFault t ≡ none → bufferLength ≤ room → lastAddress < address → callFault t room address ≡ wrongAddress
+  pub call-above : tableFault t ≡ none → leastBuffer ≤ room → lastAddress < address → callFault t room address ≡ badSetting
   unfolding callFault must
   call-above e h a =
-      next-fault _ _ e ∙ rw (le-leb bufferLength room h, le-leb firstAddress address (omega arith), lt-leb address lastAddress a)
+      next-fault _ _ e ∙ rw (le-leb leastBuffer room h, le-leb firstAddress address (omega arith), lt-leb address lastAddress a)
 
-  pub call-right : tableFault t ≡ none → bufferLength ≤ room → firstAddress ≤ address → address ≤ lastAddress → callFault t room address ≡ none
+  pub call-right : tableFault t ≡ none → leastBuffer ≤ room → firstAddress ≤ address → address ≤ lastAddress → callFault t room address ≡ none
   unfolding callFault must
-  call-right e h a b = next-fault _ _ e ∙ rw (le-leb bufferLength room h, le-leb firstAddress address a, le-leb address lastAddress b)
+  call-right e h a b = next-fault _ _ e ∙ rw (le-leb leastBuffer room h, le-leb firstAddress address a, le-leb address lastAddress b)
 
   pub call-has-room : callFault t room address ≡ none → 256 ≤ room
   unfolding callFault
   call-has-room e =
       let n = no-fault (tableFault t) _ e in
-      leb-true bufferLength room (must-none (leb bufferLength room) _ _ (omega arith) (n .1) .0)
+      leb-true leastBuffer room (must-none (leb leastBuffer room) _ _ (omega arith) (n .1) .0)
 
 -- ---- the frame's faults
 
 module _ (frame : List ℕ) where
-  pub frame-short : length frame < shortest → frameFault frame ≡ wrongLength
+  pub frame-short : length frame < shortest → frameFault frame ≡ wrongFrameLength
   unfolding frameFault must
   frame-short h = rw (lt-leb shortest (length frame) h)
 
-  pub frame-long : longest < length frame → frameFault frame ≡ wrongLength
+  pub frame-long : longest < length frame → frameFault frame ≡ wrongFrameLength
   unfolding frameFault must
   frame-long h = rw (le-leb shortest (length frame) (omega arith), lt-leb (length frame) longest h)
 

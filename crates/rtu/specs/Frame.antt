@@ -8,14 +8,14 @@ use lib.ListN.{length}
 use Rattle.items.specs.Table.{none, tableFault}
 use Rattle.crc.specs.Crc.{framed, bodyOf, isRight}
 use Rattle.modbus.specs.Outcome.{Outcome, shortBuffer, silent}
-use Rattle.modbus.specs.Rules.{must, bufferLength, acted}
+use Rattle.modbus.specs.Rules.{must, leastBuffer, acted}
 
 -- the numbers given back here, beside those of the table and of the message
-abbrev pub wrongAddress : ℕ
-wrongAddress = 4
+abbrev pub badSetting : ℕ
+badSetting = 4
 
-abbrev pub wrongLength : ℕ
-wrongLength = 21
+abbrev pub wrongFrameLength : ℕ
+wrongFrameLength = 21
 
 abbrev pub wrongCrc : ℕ
 wrongCrc = 22
@@ -42,13 +42,13 @@ orElse fault next = cond (eqb fault none) next fault
 unfoldable pub callFault : List ℤ → ℕ → ℕ → ℕ
 callFault table room address =
     orElse (tableFault table)
-    (must (leb bufferLength room) shortBuffer
-    (must (leb firstAddress address && leb address lastAddress) wrongAddress none))
+    (must (leb leastBuffer room) shortBuffer
+    (must (leb firstAddress address && leb address lastAddress) badSetting none))
 
 -- The frame's fault: its length, then its CRC.
 unfoldable pub frameFault : List ℕ → ℕ
 frameFault frame =
-    must (leb shortest (length frame) && leb (length frame) longest) wrongLength
+    must (leb shortest (length frame) && leb (length frame) longest) wrongFrameLength
     (must (isRight frame) wrongCrc none)
 
 -- all these, in the order in which they are tried

@@ -10,9 +10,9 @@ ghost use Rattle.rtu.specs.Promise.{Acts};
 use modbus::Answered;
 
 // Numbers given back, beside those of the table and of the message.
-pub const WRONG_ADDRESS: u8 = 4;
+pub const BAD_SETTING: u8 = 4;
 
-pub const WRONG_LENGTH: u8 = 21;
+pub const WRONG_FRAME_LENGTH: u8 = 21;
 
 pub const WRONG_CRC: u8 = 22;
 
@@ -33,12 +33,12 @@ fn call_fault(table: &[i32], room: usize, address: u8) -> u8
     if fault != 0 {
         return fault;
     }
-    if room < modbus::BUFFER_LENGTH {
+    if room < modbus::LEAST_BUFFER {
         return modbus::SHORT_BUFFER;
     }
     match address {
         FIRST_ADDRESS..=LAST_ADDRESS => 0,
-        _ => WRONG_ADDRESS,
+        _ => BAD_SETTING,
     }
 }
 
@@ -49,7 +49,7 @@ fn frame_fault(frame: &[u8]) -> u8
     let length = frame.len();
     match length {
         SHORTEST..=LONGEST => if crc::is_right(frame) { 0 } else { WRONG_CRC },
-        _ => WRONG_LENGTH,
+        _ => WRONG_FRAME_LENGTH,
     }
 }
 

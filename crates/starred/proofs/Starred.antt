@@ -16,8 +16,8 @@ use Rattle.crc.specs.Crc.{shift, shifts, crcFrom, crc16Of, framed, isRight}
 use Rattle.modbus.specs.Rules.{must, loopbackFault, loopingBack, obeying, acted}
 use Rattle.modbus.specs.Outcome.{unlessFault}
 use Rattle.rtu.specs.Frame as rtu
-use Rattle.starred.specs.Starred.{Example, table, start, after, blockBytes, placeFound, placeOf, unlessNumber, ofBlock, ofWritten, ofFrame, made}
+use Rattle.starred.specs.Starred.{Example, table, start, after, blockBytes, placeOf, unlessNumber, ofBlock, ofWritten, ofFrame, made}
 
 pub starred : map (λ (e : Example). made (e .deed)) table ≡ map (λ (e : Example). e .result) table
-unfolding ones found inRange tableFault startValues stored keeps heard sent bccFrom reading fits text written decided verdict used inLimits withMore withEnd performed callFault byteFault received shift shifts crcFrom crc16Of framed isRight must loopbackFault loopingBack obeying acted unlessFault rtu.orElse rtu.callFault rtu.frameFault rtu.refusal rtu.unlessRefused rtu.actedOn start after blockBytes placeFound placeOf unlessNumber ofBlock ofWritten ofFrame made
+unfolding ones found inRange tableFault startValues stored keeps heard sent bccFrom reading fits text written decided verdict used inLimits withMore withEnd performed callFault byteFault received shift shifts crcFrom crc16Of framed isRight must loopbackFault loopingBack obeying acted unlessFault rtu.orElse rtu.callFault rtu.frameFault rtu.refusal rtu.unlessRefused rtu.actedOn start after blockBytes placeOf unlessNumber ofBlock ofWritten ofFrame made
 starred = refl

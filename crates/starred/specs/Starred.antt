@@ -8,21 +8,19 @@ use lib.Dec.{eqb}
 use lib.IntN.{ℤ, pos}
 use lib.ListN.{getD}
 use Rattle.sign.specs.Sign.{minus}
-use Rattle.items.specs.declared.Found.{Found}
-use Rattle.items.specs.declared.Found.the-variants.{At, Nothing}
-use Rattle.items.specs.ItemList.{items, found}
+use Rattle.items.specs.ItemList.{found}
 use Rattle.items.specs.Table.{none, startValues, entry}
 use Rattle.line.specs.Line.{STX, ETX, EOT, ACK, sent, bcc}
-use Rattle.text.specs.Numbers.{doesNotFit, noNumber}
+use Rattle.text.specs.Numbers.{width, doesNotFit, noNumber}
 use Rattle.text.specs.Writing.{written}
 use Rattle.text.specs.declared.Written.{Written}
 use Rattle.phases.specs.Phases.{rest}
-use Rattle.block.specs.Block.{width, outOfRange}
+use Rattle.block.specs.Block.{outOfRange}
 use Rattle.rkc.specs.State.{inPhase}
 use Rattle.rkc.specs.Outcome.{Outcome, leastBuffer, silent, received}
 use Rattle.crc.specs.Crc.{isRight}
 use Rattle.modbus.specs.Outcome as modbus
-use Rattle.modbus.specs.Rules.{bufferLength}
+use Rattle.modbus.specs.Rules.{placeFound}
 use Rattle.rtu.specs.Frame.{actedOn}
 use Rattle.starred.specs.Ascii.{ascii}
 
@@ -118,10 +116,6 @@ unfoldable pub blockBytes : List ℕ → List ℕ
 blockBytes chars = EOT ∷ ascii "01" ++ STX ∷ chars ++ ETX ∷ bcc (chars ++ ETX ∷ []) ∷ []
 
 -- the place of an item in the table
-unfoldable pub placeFound : Found → ℕ
-placeFound (At i) = i
-placeFound Nothing = items
-
 unfoldable pub placeOf : List ℕ → ℕ
 placeOf identifier = placeFound (found (getD identifier 0 0) (getD identifier 1 0))
 
@@ -144,4 +138,4 @@ made (block item chars) = ofBlock (placeOf (ascii item)) (after start (blockByte
 made (writing d v) = ofWritten (written width d v)
 made (sending structure c) = byte (sent structure c)
 made (checking frame) = right (isRight frame)
-made (answering address frame) = ofFrame (actedOn startValues bufferLength address frame)
+made (answering address frame) = ofFrame (actedOn startValues leastBuffer address frame)

@@ -4,6 +4,10 @@ use lib.IntN.{ℤ, pos}
 use Rattle.text.specs.declared.Reading.{Reading}
 use Rattle.text.specs.declared.Reading.the-variants.{Value, Decimals, TooLong, NoNumber}
 
+-- how many characters a number has on the RKC line: as many when it is written, at most as many when it is read
+abbrev pub width : ℕ
+width = 6
+
 abbrev pub mostDecimals : ℕ
 mostDecimals = 3
 

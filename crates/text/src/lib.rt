@@ -5,12 +5,12 @@ ghost use mathlib.Core.Bool.{cond};
 ghost use Prim.Native.Nat.{_+_, _-_, _<_, _≤_, _^_};
 ghost use lib.ListN.{length};
 ghost use Rattle.text.specs.Characters.{isDigit, minusSign};
-ghost use Rattle.text.specs.Numbers.{mostDecimals, numberOf, valueOf};
+ghost use Rattle.text.specs.Numbers.{width, mostDecimals, numberOf, valueOf};
 ghost use Rattle.text.specs.Reading.{digitsFrom, ofParts, ofUnsigned, pointAt, reading};
 ghost use Rattle.text.specs.Writing.{refusal, room, textOf, written};
 
 // How many characters a number has: as many when it is written, at most as many when it is read.
-const WIDTH: usize = 6;
+pub const WIDTH: usize = 6;
 
 const MOST_DECIMALS: u8 = 3;
 
@@ -148,7 +148,7 @@ fn of_unsigned(minus: bool, decimals: usize, chars: &[u8]) -> Reading
 
 // What the characters say of a value with so many decimals.
 pub fn read(decimals: u8, chars: &[u8]) -> Reading
-    ensures { λ r. ⌜ r ≡ reading 6 decimals (now (chars .entry)) ⌝ }
+    ensures { λ r. ⌜ r ≡ reading width decimals (now (chars .entry)) ⌝ }
 {
     if MOST_DECIMALS < decimals {
         return Reading::Decimals;
@@ -221,7 +221,7 @@ fn layout(minus: bool, decimals: u8, size: u32) -> [u8; 6]
 
 // The value with its decimals in six characters.
 pub fn write(decimals: u8, value: i32) -> Written
-    ensures { λ r. ⌜ r ≡ written 6 decimals value ⌝ }
+    ensures { λ r. ⌜ r ≡ written width decimals value ⌝ }
 {
     if MOST_DECIMALS < decimals {
         return refused(TOO_MANY_DECIMALS);

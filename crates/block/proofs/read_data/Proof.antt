@@ -1,8 +1,8 @@
 -- `block::read_data` meets its contract: the part that is lent has the data characters, all of them where no more came than are
 -- kept. Assumes nothing.
 use mathlib.Core.Path.{_∙_, ap}
+use Rattle.text.specs.Numbers.{width}
 use Rattle.text.specs.Reading.{reading}
-use Rattle.block.specs.Block.{width}
 use Rattle.block.proofs.Cases.{data-part, too-long, all-kept}
 use borrow.Author.Needs.{needs}
 use Rattle.block.proofs.read_data.Statement.{statement}

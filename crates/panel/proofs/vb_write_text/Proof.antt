@@ -3,8 +3,8 @@ use borrow.Author.Needs.{needs}
 use mathlib.Core.Path.{ap, _∙_}
 use borrow.Author.Tests.{le-leb, lt-leb}
 use Rattle.sign.proofs.Laws.{read-back}
+use Rattle.text.specs.Numbers.{width}
 use Rattle.text.specs.Writing.{written}
-use Rattle.panel.specs.Calls.{width}
 use Rattle.panel.proofs.vb_write_text.Statement.{statement}
 use Rattle.panel.proofs.vb_write_text.Tie as tie
 
