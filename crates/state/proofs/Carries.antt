@@ -10,10 +10,12 @@ use lib.Dec.{eqb, leb}
 use lib.IntN.{ℤ}
 use lib.ListN.{length, getD, length-set}
 use lib.Seq.{length-slice}
+use Rattle.sign.proofs.Choice.{chosen}
 use Rattle.items.specs.declared.Found.{Found}
 use Rattle.items.specs.declared.Found.the-variants.{At, Nothing}
 use Rattle.items.specs.ItemList.{itemAt, found}
 use Rattle.items.specs.Table.{none, answered}
+use Rattle.text.specs.Numbers.{width}
 use Rattle.text.specs.Writing.{written}
 use Rattle.phases.specs.Phases.{oneCharacter, twoCharacters, waiting}
 use Rattle.phases.specs.declared.Act.{Act}
@@ -37,11 +39,6 @@ pub record Whole (l : Link) : Type 0 where
 -- the state that a step hands back is whole
 abbrev LeavesWhole : Step → Type 0
 LeavesWhole s = Whole (s .link)
-
--- what holds of both answers holds of the one that a test picks
-either : {A : Type 0} (P : A → Type 0) (test : Bool) {x y : A} → P x → P y → P (cond test x y)
-either P true p q = p
-either P false p q = q
 
 -- ---- each kind of state
 
@@ -70,11 +67,11 @@ module _ (l : Link) (w : Whole l) where
   used-whole : Whole (used l)
   unfolding used
   used-whole =
-      either Whole (eqb (l .phase) oneCharacter) (one-whole _)
-      (either Whole (eqb (l .phase) twoCharacters) (two-whole _ _)
-      (either Whole (eqb (l .phase) waiting) (waiting-whole _ _ (w .small))
-      (either Whole (inBlock (l .phase)) (block-whole _ _ _ _ _ (up-to-length (l .count) (l .kept) ∙ w .eight))
-      (in-phase-whole _))))
+      chosen Whole (eqb (l .phase) oneCharacter) (λ _. one-whole _)
+      (λ _. chosen Whole (eqb (l .phase) twoCharacters) (λ _. two-whole _ _)
+      (λ _. chosen Whole (eqb (l .phase) waiting) (λ _. waiting-whole _ _ (w .small))
+      (λ _. chosen Whole (inBlock (l .phase)) (λ _. block-whole _ _ _ _ _ (up-to-length (l .count) (l .kept) ∙ w .eight))
+      (λ _. in-phase-whole _))))
 
   more-whole : (c : ℕ) → Whole (withMore l c)
   unfolding withMore
@@ -90,7 +87,7 @@ module _ (structure time : ℕ) (t : List ℤ) (h : time < 2 ^ 32) where
   item-whole : (i : ℕ) → LeavesWhole (itemSent structure time t i)
   unfolding itemSent
   item-whole i =
-      either LeavesWhole (eqb (written 6 (itemAt i .decimals) (answered t i) .number) none) (waiting-whole _ time h) (in-phase-whole _)
+      chosen LeavesWhole (eqb (written width (itemAt i .decimals) (answered t i) .number) none) (λ _. waiting-whole _ time h) (λ _. in-phase-whole _)
 
   polled-whole : (f : Found) → LeavesWhole (polled structure time t f)
   polled-whole (At i) = item-whole i
@@ -119,14 +116,17 @@ module _ (l : Link) (w : Whole l) where
       → Whole (received l t buffer address structure time byte .step .link)
   unfolding received
   whole-after-byte t buffer address structure time byte h =
-      either (λ (o : Outcome). LeavesWhole (o .step)) (eqb (byteFault l t buffer address structure) none)
-      (performed-whole structure time t h (used l) _ (used-whole l w)) w
+      chosen (λ (o : Outcome). LeavesWhole (o .step)) (eqb (byteFault l t buffer address structure) none)
+      (λ _. performed-whole structure time t h (used l) _ (used-whole l w)) (λ _. w)
 
   pub whole-after-idle : (buffer structure time : ℕ) → Whole (idled l buffer structure time .link)
   unfolding idled
   whole-after-idle buffer structure time =
-      either LeavesWhole (eqb (idleFault l buffer structure) none)
-      (either LeavesWhole (eqb (used l .phase) waiting && leb patience (elapsed time (used l .time))) (in-phase-whole _) (used-whole l w)) w
+      chosen LeavesWhole (eqb (idleFault l buffer structure) none)
+      (λ _. chosen LeavesWhole (eqb (used l .phase) waiting && leb patience (elapsed time (used l .time)))
+      (λ _. in-phase-whole _)
+      (λ _. used-whole l w))
+      (λ _. w)
 
 -- ---- from one call to the next
 
