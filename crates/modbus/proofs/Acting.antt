@@ -1,15 +1,35 @@
--- What comes of a message, case by case: by its function, and by its address and the buffer's room.
+-- What comes of a message, case by case: by its fault, by its function, and by its address and the buffer's room.
 -- Assumes nothing.
-use mathlib.Core.Path.{_≡_, refl, ap}
+use mathlib.Core.Path.{_≡_, refl, sym, ap, subst, _∙_}
 use mathlib.Core.List.{List}
 use Prim.Native.Nat.{ℕ, _≤_, _<_}
 use borrow.Author.Tests.{eq-eqb, ne-eqb, le-leb, lt-leb}
 use lib.IntN.{ℤ}
 use lib.ListN.{length}
+use Rattle.items.specs.Table.{none}
 use Rattle.modbus.specs.declared.Answered.{Answered}
-use Rattle.modbus.specs.Outcome.{shortBuffer, otherAddress, unknownFunction, addressOf, functionOf, silent, exception}
+use Rattle.modbus.specs.Outcome.{Outcome, shortBuffer, otherAddress, unknownFunction, addressOf, functionOf, silent, exceptionReply, exception, unlessFault}
 use Rattle.modbus.specs.Rules.{readRegisters, writeRegister, loopback, reading, writing, loopingBack, obeying, acted, leastBuffer, actedWithin}
-use Rattle.modbus.specs.Promise.{Gives}
+use Rattle.modbus.specs.Promise.{Sends, Gives}
+
+-- ---- a fault, or none
+
+pub gives-by : {o p : Outcome} → p ≡ o → {r : Answered} {before after : List ℕ} {left : List ℤ} → Gives p r before after left
+    → Gives o r before after left
+gives-by e {r} {before} {after} {left} g = subst (λ (o : Outcome). Gives o r before after left) e g
+
+module _ (fault : ℕ) (t : List ℤ) (body : List ℕ) (o : Outcome) {r : Answered} {before after : List ℕ} where
+  pub refused : {number : ℕ} → number ≡ fault → (number ≡ none → ⊥) → Sends number (exceptionReply number body) r before after
+      → Gives (unlessFault fault t body o) r before after t
+  unfolding unlessFault
+  refused e h s = gives-by (rw (e, ne-eqb fault none (λ z. h (e ∙ z)))) (record { sends = s; table = refl })
+
+  pub accepted : {number : ℕ} {left : List ℤ} → number ≡ fault → number ≡ none → Gives o r before after left
+      → Gives (unlessFault fault t body o) r before after left
+  unfolding unlessFault
+  accepted e h g = gives-by (rw (eq-eqb fault none (sym e ∙ h))) g
+
+-- ---- the function, the address and the room
 
 module _ (t : List ℤ) (body : List ℕ) where
   pub obeying-read : functionOf body ≡ readRegisters → obeying t body ≡ reading t body

@@ -14,10 +14,11 @@ use Rattle.sign.proofs.Choice.{chosen}
 use Rattle.items.specs.ItemList.{itemAt}
 use Rattle.items.specs.Table.{none, goodTable, entry}
 use Rattle.items.proofs.Laws.{good-stored, stored-read-only}
+use Rattle.registers.specs.Faults.{firstWord, secondWord, readFault, writeFault, written, loopbackFault}
+use Rattle.registers.proofs.Faults.{Numbered, read-numbered, write-numbered, loopback-numbered, read-accepted, write-accepted, loopback-accepted}
 use Rattle.modbus.specs.Outcome.{Outcome, otherAddress, unknownFunction, functionOf, silent, done, exceptionReply, exception, unlessFault}
-use Rattle.modbus.specs.Rules.{readRegisters, writeRegister, loopback, firstWord, secondWord, readFault, readReply, reading, writeFault, written, writing, loopbackFault, loopingBack, obeying, ours, acted}
+use Rattle.modbus.specs.Rules.{readRegisters, writeRegister, loopback, readReply, reading, writing, loopingBack, obeying, ours, acted}
 use Rattle.modbus.proofs.Stores.{length-registers}
-use Rattle.modbus.proofs.Faults.{Numbered, read-numbered, write-numbered, loopback-numbered, read-accepted, write-accepted, loopback-accepted}
 
 -- ---- by cases
 

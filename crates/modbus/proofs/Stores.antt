@@ -9,7 +9,7 @@ use native.Mathlib.Omega.{arith}
 use lib.IntN.{ℤ}
 use lib.ListN.{length, drop, getD, set, drop-of-length-le}
 use lib.Seq.{drop-cons, sets}
-use Rattle.modbus.specs.Register.{registerAt, registersFrom}
+use Rattle.registers.specs.Register.{registerAt, registersFrom}
 
 pub sets-turn : (buffer bytes : List ℕ) (i : ℕ) → i < length bytes
     → sets buffer i (drop i bytes) ≡ sets (set buffer i (getD bytes i 0)) (i + 1) (drop (i + 1) bytes)

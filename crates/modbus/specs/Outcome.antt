@@ -12,7 +12,7 @@ pub record Outcome : Type 0 where
   pub reply : List ℕ
   pub table : List ℤ
 
--- the numbers given back here, beside `none`
+-- the numbers given back here, beside `none` and those of the three faults
 abbrev pub shortBuffer : ℕ
 shortBuffer = 3
 
@@ -21,12 +21,6 @@ otherAddress = 23
 
 abbrev pub unknownFunction : ℕ
 unknownFunction = 31
-
-abbrev pub wrongRegister : ℕ
-wrongRegister = 32
-
-abbrev pub wrongData : ℕ
-wrongData = 33
 
 -- the parts that every message has: the address, then the function
 abbrev pub addressOf : List ℕ → ℕ

@@ -6,11 +6,11 @@ ghost use lib.IntN.{ℤ};
 ghost use lib.ListN.{length};
 ghost use lib.Seq.{sets};
 ghost use Rattle.items.specs.Table.{none};
-ghost use Rattle.modbus.specs.Register.{toRegister, ofRegister, word, registerAt, registersFrom};
+ghost use Rattle.registers.specs.Register.{registersFrom};
+ghost use Rattle.registers.specs.Faults.{readFault};
 ghost use Rattle.modbus.specs.Outcome.{topBitSet, exceptionReply};
-ghost use Rattle.modbus.specs.Rules.{bodyLength, firstWord, secondWord, inMap, readFault, readReply, reading, placeOf, writeFault, written, writing, loopbackFault, loopingBack, obeying, leastBuffer, actedWithin};
+ghost use Rattle.modbus.specs.Rules.{readReply, reading, writing, loopingBack, obeying, leastBuffer, actedWithin};
 ghost use Rattle.modbus.specs.Promise.{Sends, Gives};
-use items::Found;
 
 // What a call hands back: the number, 0 for none, and the length of the reply.
 pub struct Answered {
@@ -28,75 +28,12 @@ pub const OTHER_ADDRESS: u8 = 23;
 
 pub const UNKNOWN_FUNCTION: u8 = 31;
 
-pub const WRONG_REGISTER: u8 = 32;
-
-pub const WRONG_DATA: u8 = 33;
-
 // Functions.
 const READ_REGISTERS: u8 = 0x03;
 
 const WRITE_REGISTER: u8 = 0x06;
 
 const LOOPBACK: u8 = 0x08;
-
-// The length of their bodies, the most registers that one message reads, and how many there are.
-const BODY_LENGTH: usize = 6;
-
-const MOST_REGISTERS: u16 = 125;
-
-const MAP_SIZE: u32 = 19;
-
-// ---- registers
-
-// The number that two bytes make, the high one first.
-fn word(high: u8, low: u8) -> u16
-    ensures { λ r. ⌜ r ≡ word high low ⌝ }
-{
-    (high as u16) * 256 + (low as u16)
-}
-
-// The two words behind the function.
-fn first_word(body: &[u8]) -> u16
-    requires { ⌜ length (now body) ≡ bodyLength ⌝ }
-    ensures { λ r. ⌜ r ≡ firstWord (now (body .entry)) ⌝ }
-{
-    word(body[2], body[3])
-}
-
-fn second_word(body: &[u8]) -> u16
-    requires { ⌜ length (now body) ≡ bodyLength ⌝ }
-    ensures { λ r. ⌜ r ≡ secondWord (now (body .entry)) ⌝ }
-{
-    word(body[4], body[5])
-}
-
-// A value as a register holds it. 2^32 more leaves its low sixteen bits and is not below zero.
-fn to_register(value: i32) -> u16
-    ensures { λ r. ⌜ r ≡ toRegister value ⌝ }
-{
-    (((value as i64) + 4294967296) as u64 % 65536) as u16
-}
-
-// The value that a register holds.
-fn of_register(register: u16) -> i32
-    ensures { λ r. ⌜ r ≡ ofRegister register ⌝ }
-{
-    if register < 0x8000 {
-        register as i32
-    } else {
-        register as i32 - 65536
-    }
-}
-
-// What a register of the map reads.
-fn register_at(table: &[i32], register: u16) -> u16
-    ensures { λ r. ⌜ r ≡ registerAt (now (table .entry)) register ⌝ }
-{
-    match items::find_register(register) {
-        Found::At(i) => to_register(items::answer(table, i)),
-        Found::Nothing => 0,
-    }
-}
 
 // ---- replies
 
@@ -137,31 +74,6 @@ fn echo(reply: &mut [u8], body: &[u8]) -> Answered
 
 // ---- 03H: a register to start from and a quantity
 
-// Whether the registers lie in the map.
-fn in_map(start: u16, quantity: u16) -> bool
-    ensures { λ r. ⌜ r ≡ inMap start quantity ⌝ }
-{
-    (start as u32) + (quantity as u32) <= MAP_SIZE
-}
-
-// The fault of a request to read, 0 for none.
-fn read_fault(body: &[u8]) -> u8
-    ensures { λ r. ⌜ r ≡ readFault (now (body .entry)) ⌝ }
-{
-    if body.len() != BODY_LENGTH {
-        return WRONG_DATA;
-    }
-    let quantity = second_word(body);
-    match quantity {
-        1..=MOST_REGISTERS => if in_map(first_word(body), quantity) {
-            0
-        } else {
-            WRONG_REGISTER
-        },
-        _ => WRONG_DATA,
-    }
-}
-
 // The registers, from the buffer's fourth byte on.
 fn put_registers(table: &[i32], reply: &mut [u8], start: u16, quantity: u16)
     requires { ⌜ (start + quantity < 0x10000) × (3 + 2 * quantity ≤ length (now reply)) ⌝ }
@@ -169,7 +81,7 @@ fn put_registers(table: &[i32], reply: &mut [u8], start: u16, quantity: u16)
 {
     let mut i = 0;
     while i < quantity {
-        let register = register_at(table, start + i);
+        let register = registers::register_at(table, start + i);
         let at = 3 + 2 * (i as usize);
         reply[at] = (register / 256) as u8;
         reply[at + 1] = (register % 256) as u8;
@@ -182,8 +94,8 @@ fn send_registers(table: &[i32], reply: &mut [u8], body: &[u8]) -> Answered
     requires { ⌜ (leastBuffer ≤ length (now reply)) × (readFault (now body) ≡ none) ⌝ }
     ensures { λ r. ⌜ Sends none (readReply (now (table .entry)) (now (body .entry))) r (now (reply .entry)) (now (reply .exit)) ⌝ }
 {
-    let start = first_word(body);
-    let quantity = second_word(body);
+    let start = registers::first_word(body);
+    let quantity = registers::second_word(body);
     reply[0] = body[0];
     reply[1] = body[1];
     reply[2] = (2 * quantity) as u8;
@@ -197,7 +109,7 @@ fn read(table: &[i32], reply: &mut [u8], body: &[u8]) -> Answered
     requires { ⌜ (leastBuffer ≤ length (now reply)) × (2 ≤ length (now body)) ⌝ }
     ensures { λ r. ⌜ Gives (reading (now (table .entry)) (now (body .entry))) r (now (reply .entry)) (now (reply .exit)) (now (table .entry)) ⌝ }
 {
-    let fault = read_fault(body);
+    let fault = registers::read_fault(body);
     if fault != 0 {
         return exception(reply, body, fault);
     }
@@ -206,78 +118,27 @@ fn read(table: &[i32], reply: &mut [u8], body: &[u8]) -> Answered
 
 // ---- 06H: a register and a value
 
-// The place of the item that has a register; past the list where none has it.
-fn place_of(register: u16) -> usize
-    ensures { λ r. ⌜ r ≡ placeOf register ⌝ }
-{
-    match items::find_register(register) {
-        Found::At(i) => i,
-        Found::Nothing => items::ITEMS,
-    }
-}
-
-// The fault of a request to write, 0 for none.
-fn write_fault(body: &[u8]) -> u8
-    ensures { λ r. ⌜ r ≡ writeFault (now (body .entry)) ⌝ }
-{
-    if body.len() != BODY_LENGTH {
-        return WRONG_DATA;
-    }
-    let i = place_of(first_word(body));
-    if items::writable(i) {
-        if items::in_range(i, of_register(second_word(body))) {
-            0
-        } else {
-            WRONG_DATA
-        }
-    } else {
-        WRONG_REGISTER
-    }
-}
-
-// The item takes the value.
-fn store_value(table: &mut [i32], body: &[u8])
-    requires { ⌜ length (now body) ≡ bodyLength ⌝ }
-    ensures { λ _. ⌜ now (table .exit) ≡ written (now (table .entry)) (now (body .entry)) ⌝ }
-{
-    items::store(
-        table,
-        place_of(first_word(body)),
-        of_register(second_word(body)),
-    );
-}
-
 // A register is written.
 fn write(table: &mut [i32], reply: &mut [u8], body: &[u8]) -> Answered
     requires { ⌜ (leastBuffer ≤ length (now reply)) × (2 ≤ length (now body)) ⌝ }
     ensures { λ r. ⌜ Gives (writing (now (table .entry)) (now (body .entry))) r (now (reply .entry)) (now (reply .exit)) (now (table .exit)) ⌝ }
 {
-    let fault = write_fault(body);
+    let fault = registers::write_fault(body);
     if fault != 0 {
         return exception(reply, body, fault);
     }
-    store_value(table, body);
+    registers::store_value(table, body);
     echo(reply, body)
 }
 
 // ---- 08H: a test code and data
-
-// The fault of a loopback, 0 for none.
-fn loopback_fault(body: &[u8]) -> u8
-    ensures { λ r. ⌜ r ≡ loopbackFault (now (body .entry)) ⌝ }
-{
-    if body.len() != BODY_LENGTH {
-        return WRONG_DATA;
-    }
-    if first_word(body) == 0 { 0 } else { WRONG_DATA }
-}
 
 // The request comes back.
 fn loop_back(reply: &mut [u8], body: &[u8]) -> Answered
     requires { ⌜ (leastBuffer ≤ length (now reply)) × (2 ≤ length (now body)) ⌝ }
     ensures { λ r. ⌜ ((t : List ℤ) → Gives (loopingBack t (now (body .entry))) r (now (reply .entry)) (now (reply .exit)) t) ⌝ }
 {
-    let fault = loopback_fault(body);
+    let fault = registers::loopback_fault(body);
     if fault != 0 {
         return exception(reply, body, fault);
     }

@@ -12,9 +12,10 @@ use lib.ListN.{length}
 use Rattle.sign.proofs.Choice.{both}
 use Rattle.items.specs.Table.{none, tableFault}
 use Rattle.crc.specs.Crc.{isRight}
+use Rattle.registers.specs.Faults.{must}
+use Rattle.registers.proofs.Faults.{must-none}
 use Rattle.modbus.specs.Outcome.{shortBuffer}
-use Rattle.modbus.specs.Rules.{must, leastBuffer}
-use Rattle.modbus.proofs.Faults.{must-none}
+use Rattle.modbus.specs.Rules.{leastBuffer}
 use Rattle.rtu.specs.Frame.{badSetting, wrongFrameLength, wrongCrc, firstAddress, lastAddress, shortest, longest, orElse, callFault, frameFault, refusal}
 
 -- ---- one fault, or else the next

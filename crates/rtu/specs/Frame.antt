@@ -7,8 +7,9 @@ use lib.IntN.{ℤ}
 use lib.ListN.{length}
 use Rattle.items.specs.Table.{none, tableFault}
 use Rattle.crc.specs.Crc.{framed, bodyOf, isRight}
+use Rattle.registers.specs.Faults.{must}
 use Rattle.modbus.specs.Outcome.{Outcome, shortBuffer, silent}
-use Rattle.modbus.specs.Rules.{must, leastBuffer, acted}
+use Rattle.modbus.specs.Rules.{leastBuffer, acted}
 
 -- the numbers given back here, beside those of the table and of the message
 abbrev pub badSetting : ℕ

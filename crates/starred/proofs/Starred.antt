@@ -13,7 +13,8 @@ use Rattle.block.specs.Block.{verdict}
 use Rattle.rkc.specs.State.{used, inLimits, withMore, withEnd}
 use Rattle.rkc.specs.Outcome.{performed, callFault, byteFault, received}
 use Rattle.crc.specs.Crc.{shift, shifts, crcFrom, crc16Of, framed, isRight}
-use Rattle.modbus.specs.Rules.{must, loopbackFault, loopingBack, obeying, acted}
+use Rattle.registers.specs.Faults.{must, loopbackFault}
+use Rattle.modbus.specs.Rules.{loopingBack, obeying, acted}
 use Rattle.modbus.specs.Outcome.{unlessFault}
 use Rattle.rtu.specs.Frame as rtu
 use Rattle.starred.specs.Starred.{Example, table, start, after, blockBytes, placeOf, unlessNumber, ofBlock, ofWritten, ofFrame, made}

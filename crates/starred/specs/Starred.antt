@@ -19,8 +19,8 @@ use Rattle.block.specs.Block.{outOfRange}
 use Rattle.rkc.specs.State.{inPhase}
 use Rattle.rkc.specs.Outcome.{Outcome, leastBuffer, silent, received}
 use Rattle.crc.specs.Crc.{isRight}
+use Rattle.registers.specs.Faults.{placeFound}
 use Rattle.modbus.specs.Outcome as modbus
-use Rattle.modbus.specs.Rules.{placeFound}
 use Rattle.rtu.specs.Frame.{actedOn}
 use Rattle.starred.specs.Ascii.{ascii}
 

@@ -1,8 +1,9 @@
 -- `modbus::loop_back` meets its contract: a fault is answered by its exception, else the request comes back. Assumes nothing.
 use mathlib.Core.Path.{refl, sym, _∙_}
 use native.Mathlib.Omega.{arith}
+use Rattle.registers.proofs.Faults.{numbered-of, loopback-numbered, loopback-accepted}
 use Rattle.modbus.specs.Rules.{loopingBack}
-use Rattle.modbus.proofs.Faults.{numbered-of, loopback-numbered, loopback-accepted, refused, accepted}
+use Rattle.modbus.proofs.Acting.{refused, accepted}
 use borrow.Author.Needs.{needs}
 use Rattle.modbus.proofs.loop_back.Statement.{statement}
 use Rattle.modbus.proofs.loop_back.Tie as tie

@@ -1,7 +1,6 @@
 -- `modbus::obey` meets its contract: the function picks the handler. Assumes nothing.
 use mathlib.Core.Path.{refl, sym}
-use Rattle.modbus.proofs.Faults.{gives-by}
-use Rattle.modbus.proofs.Acting.{obeying-read, obeying-write, obeying-loopback, obeying-other}
+use Rattle.modbus.proofs.Acting.{gives-by, obeying-read, obeying-write, obeying-loopback, obeying-other}
 use borrow.Author.Needs.{needs}
 use Rattle.modbus.proofs.obey.Statement.{statement}
 use Rattle.modbus.proofs.obey.Tie as tie

@@ -1,7 +1,8 @@
 -- `modbus::read` meets its contract: a fault is answered by its exception, else the registers are sent. Assumes nothing.
 use mathlib.Core.Path.{refl}
+use Rattle.registers.proofs.Faults.{numbered-of, read-numbered}
 use Rattle.modbus.specs.Rules.{reading}
-use Rattle.modbus.proofs.Faults.{numbered-of, read-numbered, refused, accepted}
+use Rattle.modbus.proofs.Acting.{refused, accepted}
 use borrow.Author.Needs.{needs}
 use Rattle.modbus.proofs.read.Statement.{statement}
 use Rattle.modbus.proofs.read.Tie as tie

@@ -1,8 +1,7 @@
 -- `modbus::respond` meets its contract: a short buffer and another's message are passed over, ours is obeyed. Assumes nothing.
 use mathlib.Core.Path.{sym, _∙_}
 use native.Mathlib.Omega.{arith}
-use Rattle.modbus.proofs.Faults.{gives-by}
-use Rattle.modbus.proofs.Acting.{acted-ours, acted-short, acted-other, within-room, without-room, gives-silence}
+use Rattle.modbus.proofs.Acting.{gives-by, acted-ours, acted-short, acted-other, within-room, without-room, gives-silence}
 use borrow.Author.Needs.{needs}
 use Rattle.modbus.proofs.respond.Statement.{statement}
 use Rattle.modbus.proofs.respond.Tie as tie

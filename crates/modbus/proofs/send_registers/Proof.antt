@@ -7,10 +7,11 @@ use Prim.Native.Nat.{ℕ, _*_}
 use native.Mathlib.Omega.{arith}
 use lib.ListN.{getD, set, length-set}
 use lib.Seq.{sets}
-use Rattle.modbus.specs.Register.{registersFrom}
-use Rattle.modbus.specs.Rules.{firstWord, secondWord, readReply}
+use Rattle.registers.specs.Register.{registersFrom}
+use Rattle.registers.specs.Faults.{firstWord, secondWord}
+use Rattle.registers.proofs.Faults.{ToRead, read-accepted}
+use Rattle.modbus.specs.Rules.{readReply}
 use Rattle.modbus.proofs.Stores.{length-registers}
-use Rattle.modbus.proofs.Faults.{ToRead, read-accepted}
 use Rattle.modbus.proofs.send_registers.Statement.{statement}
 use Rattle.modbus.proofs.send_registers.Tie as tie
 
@@ -19,10 +20,10 @@ request : (c : tie.Start) → ToRead (c .args .body .now)
 request c = read-accepted _ (c .pre .1)
 
 first-word-requires : tie.Need-first-word-requires
-first-word-requires c κs = request (c .before .before) .long
+first-word-requires c κs = search needs
 
 second-word-requires : tie.Need-second-word-requires
-second-word-requires c κs = request (c .before .before .before) .long
+second-word-requires c κs = search needs
 
 shared-slice-read-reply : tie.Need-shared-slice-read-reply
 shared-slice-read-reply c = let q = request (c .before .before .before .before .before) in omega arith

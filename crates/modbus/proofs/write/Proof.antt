@@ -3,8 +3,10 @@
 use mathlib.Core.Path.{_≡_, sym, _∙_}
 use native.Mathlib.Omega.{arith}
 use lib.ListN.{length}
-use Rattle.modbus.specs.Rules.{bodyLength, writing}
-use Rattle.modbus.proofs.Faults.{numbered-of, write-numbered, write-accepted, refused, accepted}
+use Rattle.registers.specs.Faults.{bodyLength}
+use Rattle.registers.proofs.Faults.{numbered-of, write-numbered, write-accepted}
+use Rattle.modbus.specs.Rules.{writing}
+use Rattle.modbus.proofs.Acting.{refused, accepted}
 use borrow.Author.Needs.{needs}
 use Rattle.modbus.proofs.write.Statement.{statement}
 use Rattle.modbus.proofs.write.Tie as tie
@@ -30,7 +32,7 @@ long : (c : tie.Else1) → length (c .before .before .before .before .args .body
 long c = write-accepted _ (sym (c .before .write-fault .ensures) ∙ c .if1 .left) .long
 
 store-value-requires : tie.Need-store-value-requires
-store-value-requires c κs = long (c .before)
+store-value-requires c κs = search needs
 
 echo-requires : tie.Need-echo-requires
 echo-requires c κs = let six = long (c .before .before .before .before) in omega arith

@@ -8,8 +8,7 @@ use lib.Seq.{length-take-le}
 use Rattle.crc.specs.Crc.{bodyOf}
 use Rattle.modbus.specs.Rules.{acted}
 use Rattle.modbus.specs.Promise.{Gives}
-use Rattle.modbus.proofs.Faults.{gives-by}
-use Rattle.modbus.proofs.Acting.{within-room}
+use Rattle.modbus.proofs.Acting.{gives-by, within-room}
 use Rattle.modbus.proofs.Laws.{reply-short}
 use Rattle.rtu.proofs.Refusals.{not-refused, call-has-room, frame-has-body}
 use Rattle.rtu.proofs.Replies.{gives-silent, gives-sealed}

@@ -3,8 +3,7 @@ use mathlib.Core.Path.{sym, ap, _∙_}
 use Prim.Native.Nat.{ℕ}
 use native.Mathlib.Omega.{arith}
 use Rattle.modbus.specs.declared.Answered.{Answered}
-use Rattle.modbus.proofs.Faults.{gives-by}
-use Rattle.modbus.proofs.Acting.{gives-silence}
+use Rattle.modbus.proofs.Acting.{gives-by, gives-silence}
 use Rattle.rtu.proofs.Replies.{acted-refused, acted-answered}
 use Rattle.rtu.proofs.Demands.{acts}
 use borrow.Author.Needs.{needs}

@@ -1,17 +1,16 @@
--- `modbus::write_fault` meets its contract: each way out is one of the rules of a write. Assumes nothing.
+-- `registers::write_fault` meets its contract: each way out is one of the rules of a write. Assumes nothing.
 use mathlib.Core.Path.{_≡_, sym, ap, ap₂, _∙_}
 use mathlib.Core.Bool.{Bool, cond}
 use Prim.Native.Nat.{ℕ}
 use Rattle.sign.proofs.Laws.{same}
 use Rattle.items.specs.ItemList.{itemAt}
 use Rattle.items.specs.Table.{none, inRange}
-use Rattle.modbus.specs.Register.{ofRegister}
-use Rattle.modbus.specs.Outcome.{wrongData}
-use Rattle.modbus.specs.Rules.{firstWord, placeOf, writable, writeFault}
-use Rattle.modbus.proofs.Faults.{wrong-length, write-refused, write-ranged}
+use Rattle.registers.specs.Register.{ofRegister}
+use Rattle.registers.specs.Faults.{wrongData, firstWord, placeOf, writable, writeFault}
+use Rattle.registers.proofs.Faults.{wrong-length, write-refused, write-ranged}
 use borrow.Author.Needs.{needs}
-use Rattle.modbus.proofs.write_fault.Statement.{statement}
-use Rattle.modbus.proofs.write_fault.Tie as tie
+use Rattle.registers.proofs.write_fault.Statement.{statement}
+use Rattle.registers.proofs.write_fault.Tie as tie
 
 returns : tie.Need-returns
 unfolding writeFault

@@ -1,14 +1,13 @@
--- `modbus::read_fault` meets its contract: each way out is one of the rules of a read. Assumes nothing.
+-- `registers::read_fault` meets its contract: each way out is one of the rules of a read. Assumes nothing.
 use mathlib.Core.Path.{_≡_, sym, ap, ap₂, _∙_}
 use mathlib.Core.Bool.{Bool, cond}
 use native.Mathlib.Omega.{arith}
 use Rattle.items.specs.Table.{none}
-use Rattle.modbus.specs.Outcome.{wrongRegister}
-use Rattle.modbus.specs.Rules.{inMap, readFault}
-use Rattle.modbus.proofs.Faults.{wrong-length, read-none, read-many, read-span}
+use Rattle.registers.specs.Faults.{wrongRegister, inMap, readFault}
+use Rattle.registers.proofs.Faults.{wrong-length, read-none, read-many, read-span}
 use borrow.Author.Needs.{needs}
-use Rattle.modbus.proofs.read_fault.Statement.{statement}
-use Rattle.modbus.proofs.read_fault.Tie as tie
+use Rattle.registers.proofs.read_fault.Statement.{statement}
+use Rattle.registers.proofs.read_fault.Tie as tie
 
 returns : tie.Need-returns
 unfolding readFault

@@ -1,4 +1,4 @@
--- `modbus::to_register` meets its contract: widened to 64 bits and raised, the value keeps its low 16 bits. Assumes nothing.
+-- `registers::to_register` meets its contract: widened to 64 bits and raised, the value keeps its low 16 bits. Assumes nothing.
 use borrow.Author.Needs.{needs}
 use mathlib.Core.Path.{_≡_, ap, _∙_}
 use Prim.Native.Nat.{_%_}
@@ -8,9 +8,9 @@ use mir.Syntax.{w32, w64}
 use mir.Val.{toZ, ofZ}
 use mir.Facts.{toZ-ofZ, sfits-widen}
 use Rattle.sign.proofs.Laws.{read-back, widened}
-use Rattle.modbus.proofs.Registers.{raised}
-use Rattle.modbus.proofs.to_register.Statement.{statement}
-use Rattle.modbus.proofs.to_register.Tie as tie
+use Rattle.registers.proofs.Registers.{raised}
+use Rattle.registers.proofs.to_register.Statement.{statement}
+use Rattle.registers.proofs.to_register.Tie as tie
 
 cast-result : tie.Need-cast-result
 cast-result c = rw (read-back (c .args .value) (c .fits .value)) (sfits-widen tt (c .fits .value))

@@ -1,11 +1,11 @@
--- `modbus::loopback_fault` meets its contract: each way out is one of the rules of a loopback. Assumes nothing.
+-- `registers::loopback_fault` meets its contract: each way out is one of the rules of a loopback. Assumes nothing.
 use mathlib.Core.Path.{sym, _∙_}
 use borrow.Author.Tests.{eq-eqb, ne-eqb}
-use Rattle.modbus.specs.Rules.{loopbackFault}
-use Rattle.modbus.proofs.Faults.{wrong-length, loopback-coded}
+use Rattle.registers.specs.Faults.{loopbackFault}
+use Rattle.registers.proofs.Faults.{wrong-length, loopback-coded}
 use borrow.Author.Needs.{needs}
-use Rattle.modbus.proofs.loopback_fault.Statement.{statement}
-use Rattle.modbus.proofs.loopback_fault.Tie as tie
+use Rattle.registers.proofs.loopback_fault.Statement.{statement}
+use Rattle.registers.proofs.loopback_fault.Tie as tie
 
 returns : tie.Need-returns
 unfolding loopbackFault

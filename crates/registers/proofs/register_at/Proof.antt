@@ -1,10 +1,10 @@
--- `modbus::register_at` meets its contract: what the search found decides. Assumes nothing.
+-- `registers::register_at` meets its contract: what the search found decides. Assumes nothing.
 use borrow.Author.Needs.{needs}
 use mathlib.Core.Path.{sym, ap, _∙_}
 use Rattle.sign.proofs.Laws.{same}
-use Rattle.modbus.specs.Register.{toRegister, readAs, registerAt}
-use Rattle.modbus.proofs.register_at.Statement.{statement}
-use Rattle.modbus.proofs.register_at.Tie as tie
+use Rattle.registers.specs.Register.{toRegister, readAs, registerAt}
+use Rattle.registers.proofs.register_at.Statement.{statement}
+use Rattle.registers.proofs.register_at.Tie as tie
 
 find-register-requires : tie.Need-find-register-requires
 find-register-requires c κs = search needs

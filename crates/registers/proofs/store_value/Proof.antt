@@ -1,12 +1,12 @@
--- `modbus::store_value` meets its contract: the place and the value are those of the request. Assumes nothing.
+-- `registers::store_value` meets its contract: the place and the value are those of the request. Assumes nothing.
 use mathlib.Core.Path.{ap, ap₂, _∙_}
 use Rattle.sign.proofs.Laws.{same}
 use Rattle.items.specs.Table.{stored}
-use Rattle.modbus.specs.Register.{ofRegister}
-use Rattle.modbus.specs.Rules.{placeOf, written}
+use Rattle.registers.specs.Register.{ofRegister}
+use Rattle.registers.specs.Faults.{placeOf, written}
 use borrow.Author.Needs.{needs}
-use Rattle.modbus.proofs.store_value.Statement.{statement}
-use Rattle.modbus.proofs.store_value.Tie as tie
+use Rattle.registers.proofs.store_value.Statement.{statement}
+use Rattle.registers.proofs.store_value.Tie as tie
 
 first-word-requires : tie.Need-first-word-requires
 first-word-requires c κs = search needs

@@ -1,4 +1,4 @@
--- `modbus::of_register` meets its contract: from 8000H up the machine's difference is below zero. Assumes nothing.
+-- `registers::of_register` meets its contract: from 8000H up the machine's difference is below zero. Assumes nothing.
 use borrow.Author.Needs.{needs}
 use borrow.Author.Tests.{lt-ltb, le-ltb}
 use mathlib.Core.Path.{_≡_, ap, _∙_}
@@ -8,9 +8,9 @@ use lib.IntN.{ℤ, pos, negsuc, _-ℤ_}
 use mir.Syntax.{w32}
 use mir.Val.{toZ}
 use mir.Facts.{toZ-ofZ, toZ-pos}
-use Rattle.modbus.proofs.Registers.{lowered}
-use Rattle.modbus.proofs.of_register.Statement.{statement}
-use Rattle.modbus.proofs.of_register.Tie as tie
+use Rattle.registers.proofs.Registers.{lowered}
+use Rattle.registers.proofs.of_register.Statement.{statement}
+use Rattle.registers.proofs.of_register.Tie as tie
 
 cast-result : tie.Need-cast-result
 cast-result c = search needs

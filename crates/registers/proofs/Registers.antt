@@ -8,7 +8,7 @@ use borrow.Author.Tests.{lt-ltb, le-ltb}
 use lib.Dec.{ltb}
 use lib.IntN.{ℤ, pos, negsuc, _+ℤ_, _-ℤ_}
 use lib.Signed.{mag}
-use Rattle.modbus.specs.Register.{toRegister, ofRegister}
+use Rattle.registers.specs.Register.{toRegister, ofRegister}
 
 -- 2^32 more than an i32 is not below zero, and has the register's 16 bits
 pub raised : (v : ℤ) → mag v < 2 ^ 31 → (n : ℕ) × (v +ℤ pos 4294967296 ≡ pos n) × (n < 2 ^ 33) × (n % 65536 ≡ toRegister v)

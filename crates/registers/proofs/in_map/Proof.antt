@@ -1,8 +1,8 @@
--- `modbus::in_map` meets its contract: the sum is made in 32 bits, where it does not wrap. Assumes nothing.
+-- `registers::in_map` meets its contract: the sum is made in 32 bits, where it does not wrap. Assumes nothing.
 use borrow.Author.Needs.{needs}
 use mathlib.Core.Path.{refl}
-use Rattle.modbus.proofs.in_map.Statement.{statement}
-use Rattle.modbus.proofs.in_map.Tie as tie
+use Rattle.registers.proofs.in_map.Statement.{statement}
+use Rattle.registers.proofs.in_map.Tie as tie
 
 add-result : tie.Need-add-result
 add-result c = search needs

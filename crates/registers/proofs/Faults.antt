@@ -1,21 +1,17 @@
 -- The rules of each function one by one, and what follows from meeting a fault or none.
 -- Assumes nothing.
-use mathlib.Core.Path.{_≡_, refl, sym, subst, _∙_}
+use mathlib.Core.Path.{_≡_, refl, _∙_}
 use mathlib.Core.Bool.{Bool, true, false, cond, _&&_}
 use mathlib.Core.List.{List}
 use Prim.Native.Nat.{ℕ, _+_, _≤_, _<_}
 use native.Mathlib.Omega.{arith}
 use borrow.Author.Tests.{eqb-true, eq-eqb, ne-eqb, leb-true, le-leb, lt-leb}
 use lib.Dec.{eqb, leb}
-use lib.IntN.{ℤ}
 use lib.ListN.{length}
 use Rattle.sign.proofs.Choice.{both}
 use Rattle.items.specs.Table.{none, inRange}
-use Rattle.modbus.specs.declared.Answered.{Answered}
-use Rattle.modbus.specs.Register.{ofRegister}
-use Rattle.modbus.specs.Outcome.{Outcome, wrongRegister, wrongData, exceptionReply, unlessFault}
-use Rattle.modbus.specs.Rules.{bodyLength, mostRegisters, firstWord, secondWord, must, inMap, readFault, placeOf, writable, writeFault, loopbackFault}
-use Rattle.modbus.specs.Promise.{Sends, Gives}
+use Rattle.registers.specs.Register.{ofRegister}
+use Rattle.registers.specs.Faults.{wrongRegister, wrongData, bodyLength, mostRegisters, firstWord, secondWord, must, inMap, readFault, placeOf, writable, writeFault, loopbackFault}
 
 -- ---- rules in a row
 
@@ -138,20 +134,3 @@ module _ (body : List ℕ) where
   pub loopback-accepted : loopbackFault body ≡ none → length body ≡ bodyLength
   unfolding loopbackFault
   loopback-accepted e = eqb-true _ _ (must-none (eqb (length body) bodyLength) _ _ (omega arith) e .0)
-
--- ---- a fault, or none
-
-pub gives-by : {o p : Outcome} → p ≡ o → {r : Answered} {before after : List ℕ} {left : List ℤ} → Gives p r before after left
-    → Gives o r before after left
-gives-by e {r} {before} {after} {left} g = subst (λ (o : Outcome). Gives o r before after left) e g
-
-module _ (fault : ℕ) (t : List ℤ) (body : List ℕ) (o : Outcome) {r : Answered} {before after : List ℕ} where
-  pub refused : {number : ℕ} → number ≡ fault → (number ≡ none → ⊥) → Sends number (exceptionReply number body) r before after
-      → Gives (unlessFault fault t body o) r before after t
-  unfolding unlessFault
-  refused e h s = gives-by (rw (e, ne-eqb fault none (λ z. h (e ∙ z)))) (record { sends = s; table = refl })
-
-  pub accepted : {number : ℕ} {left : List ℤ} → number ≡ fault → number ≡ none → Gives o r before after left
-      → Gives (unlessFault fault t body o) r before after left
-  unfolding unlessFault
-  accepted e h g = gives-by (rw (eq-eqb fault none (sym e ∙ h))) g

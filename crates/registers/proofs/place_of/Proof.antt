@@ -1,9 +1,9 @@
--- `modbus::place_of` meets its contract: what the search found decides. Assumes nothing.
+-- `registers::place_of` meets its contract: what the search found decides. Assumes nothing.
 use borrow.Author.Needs.{needs}
 use mathlib.Core.Path.{sym, ap, _∙_}
-use Rattle.modbus.specs.Rules.{placeFound, placeOf}
-use Rattle.modbus.proofs.place_of.Statement.{statement}
-use Rattle.modbus.proofs.place_of.Tie as tie
+use Rattle.registers.specs.Faults.{placeFound, placeOf}
+use Rattle.registers.proofs.place_of.Statement.{statement}
+use Rattle.registers.proofs.place_of.Tie as tie
 
 find-register-requires : tie.Need-find-register-requires
 find-register-requires c κs = search needs

@@ -1,0 +1,3 @@
+pub mod Registers
+pub mod Faults
+pub mod Single

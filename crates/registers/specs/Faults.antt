@@ -1,0 +1,87 @@
+-- What the body of a message asks for by its two words, and the fault that each function meets.
+use Prim.Native.Nat.{ℕ, _+_}
+use mathlib.Core.Bool.{Bool, cond, _&&_}
+use mathlib.Core.List.{List}
+use lib.Dec.{eqb, leb}
+use lib.IntN.{ℤ}
+use lib.ListN.{getD, length}
+use Rattle.items.specs.declared.Found.{Found}
+use Rattle.items.specs.declared.Found.the-variants.{At, Nothing}
+use Rattle.items.specs.ItemList.{items, itemAt, foundByRegister}
+use Rattle.items.specs.Table.{none, inRange, stored}
+use Rattle.registers.specs.Register.{ofRegister, word}
+
+-- the numbers given back here, beside `none`
+abbrev pub wrongRegister : ℕ
+wrongRegister = 32
+
+abbrev pub wrongData : ℕ
+wrongData = 33
+
+-- the body of each function has this length
+abbrev pub bodyLength : ℕ
+bodyLength = 6
+
+-- the two words behind the function: a register and a quantity or a value, or a test code and data
+abbrev pub firstWord : List ℕ → ℕ
+firstWord body = word (getD body 2 0) (getD body 3 0)
+
+abbrev pub secondWord : List ℕ → ℕ
+secondWord body = word (getD body 4 0) (getD body 5 0)
+
+-- a rule: the test must hold, else this number is given; where it holds the rules after it decide
+unfoldable pub must : Bool → ℕ → ℕ → ℕ
+must test number others = cond test others number
+
+-- ---- 03H: a register to start from and a quantity
+
+-- the most registers that one message reads
+abbrev pub mostRegisters : ℕ
+mostRegisters = 125
+
+-- the map is 0000H to 0012H
+abbrev pub mapSize : ℕ
+mapSize = 19
+
+abbrev pub inMap : ℕ → ℕ → Bool
+inMap start quantity = leb (start + quantity) mapSize
+
+-- the length, then the quantity, then the span
+unfoldable pub readFault : List ℕ → ℕ
+readFault body =
+    must (eqb (length body) bodyLength) wrongData
+    (must (leb 1 (secondWord body) && leb (secondWord body) mostRegisters) wrongData
+    (must (inMap (firstWord body) (secondWord body)) wrongRegister none))
+
+-- ---- 06H: a register and a value
+
+-- the place of the item that was found; past the list for none
+abbrev pub placeFound : Found → ℕ
+placeFound (At i) = i
+placeFound Nothing = items
+
+unfoldable pub placeOf : ℕ → ℕ
+placeOf register = placeFound (foundByRegister register)
+
+-- the register is that of a writable item
+abbrev pub writable : ℕ → Bool
+writable register = itemAt (placeOf register) .writable
+
+-- the length, then the register, then the value
+unfoldable pub writeFault : List ℕ → ℕ
+writeFault body =
+    must (eqb (length body) bodyLength) wrongData
+    (must (writable (firstWord body)) wrongRegister
+    (must (inRange (placeOf (firstWord body)) (ofRegister (secondWord body))) wrongData none))
+
+-- the item takes the value
+unfoldable pub written : List ℤ → List ℕ → List ℤ
+written table body = stored table (placeOf (firstWord body)) (ofRegister (secondWord body))
+
+-- ---- 08H: a test code and data
+
+-- the length, then the test code
+unfoldable pub loopbackFault : List ℕ → ℕ
+loopbackFault body =
+    must (eqb (length body) bodyLength) wrongData
+    (must (eqb (firstWord body) 0) wrongData none)

@@ -1,0 +1,158 @@
+// What the body of a message asks for: its two words, the registers they name, and the fault that each function meets.
+ghost use mathlib.Core.Path.{_≡_};
+ghost use lib.ListN.{getD};
+ghost use Rattle.registers.specs.Register.{toRegister, ofRegister, word, registerAt};
+ghost use Rattle.registers.specs.Faults.{firstWord, secondWord, inMap, readFault, placeOf, writeFault, written, loopbackFault};
+use items::Found;
+
+// Numbers given back.
+pub const WRONG_REGISTER: u8 = 32;
+
+pub const WRONG_DATA: u8 = 33;
+
+// The length of a body, the most registers that one message reads, and how many there are.
+const BODY_LENGTH: usize = 6;
+
+const MOST_REGISTERS: u16 = 125;
+
+const MAP_SIZE: u32 = 19;
+
+// ---- words
+
+// A byte of the body, 0 past its end: a body of any length has its words.
+fn byte_at(body: &[u8], i: usize) -> u8
+    ensures { λ r. ⌜ r ≡ getD (now (body .entry)) i 0 ⌝ }
+{
+    if i < body.len() { body[i] } else { 0 }
+}
+
+// The number that two bytes make, the high one first.
+fn word(high: u8, low: u8) -> u16
+    ensures { λ r. ⌜ r ≡ word high low ⌝ }
+{
+    (high as u16) * 256 + (low as u16)
+}
+
+// The two words behind the function.
+pub fn first_word(body: &[u8]) -> u16
+    ensures { λ r. ⌜ r ≡ firstWord (now (body .entry)) ⌝ }
+{
+    word(byte_at(body, 2), byte_at(body, 3))
+}
+
+pub fn second_word(body: &[u8]) -> u16
+    ensures { λ r. ⌜ r ≡ secondWord (now (body .entry)) ⌝ }
+{
+    word(byte_at(body, 4), byte_at(body, 5))
+}
+
+// ---- registers
+
+// A value as a register holds it. 2^32 more leaves its low sixteen bits and is not below zero.
+fn to_register(value: i32) -> u16
+    ensures { λ r. ⌜ r ≡ toRegister value ⌝ }
+{
+    (((value as i64) + 4294967296) as u64 % 65536) as u16
+}
+
+// The value that a register holds.
+fn of_register(register: u16) -> i32
+    ensures { λ r. ⌜ r ≡ ofRegister register ⌝ }
+{
+    if register < 0x8000 {
+        register as i32
+    } else {
+        register as i32 - 65536
+    }
+}
+
+// What a register of the map reads.
+pub fn register_at(table: &[i32], register: u16) -> u16
+    ensures { λ r. ⌜ r ≡ registerAt (now (table .entry)) register ⌝ }
+{
+    match items::find_register(register) {
+        Found::At(i) => to_register(items::answer(table, i)),
+        Found::Nothing => 0,
+    }
+}
+
+// ---- 03H: a register to start from and a quantity
+
+// Whether the registers lie in the map.
+fn in_map(start: u16, quantity: u16) -> bool
+    ensures { λ r. ⌜ r ≡ inMap start quantity ⌝ }
+{
+    (start as u32) + (quantity as u32) <= MAP_SIZE
+}
+
+// The fault of a request to read, 0 for none.
+pub fn read_fault(body: &[u8]) -> u8
+    ensures { λ r. ⌜ r ≡ readFault (now (body .entry)) ⌝ }
+{
+    if body.len() != BODY_LENGTH {
+        return WRONG_DATA;
+    }
+    let quantity = second_word(body);
+    match quantity {
+        1..=MOST_REGISTERS => if in_map(first_word(body), quantity) {
+            0
+        } else {
+            WRONG_REGISTER
+        },
+        _ => WRONG_DATA,
+    }
+}
+
+// ---- 06H: a register and a value
+
+// The place of the item that has a register; past the list where none has it.
+fn place_of(register: u16) -> usize
+    ensures { λ r. ⌜ r ≡ placeOf register ⌝ }
+{
+    match items::find_register(register) {
+        Found::At(i) => i,
+        Found::Nothing => items::ITEMS,
+    }
+}
+
+// The fault of a request to write, 0 for none.
+pub fn write_fault(body: &[u8]) -> u8
+    ensures { λ r. ⌜ r ≡ writeFault (now (body .entry)) ⌝ }
+{
+    if body.len() != BODY_LENGTH {
+        return WRONG_DATA;
+    }
+    let i = place_of(first_word(body));
+    if items::writable(i) {
+        if items::in_range(i, of_register(second_word(body))) {
+            0
+        } else {
+            WRONG_DATA
+        }
+    } else {
+        WRONG_REGISTER
+    }
+}
+
+// The item takes the value.
+pub fn store_value(table: &mut [i32], body: &[u8])
+    ensures { λ _. ⌜ now (table .exit) ≡ written (now (table .entry)) (now (body .entry)) ⌝ }
+{
+    items::store(
+        table,
+        place_of(first_word(body)),
+        of_register(second_word(body)),
+    );
+}
+
+// ---- 08H: a test code and data
+
+// The fault of a loopback, 0 for none.
+pub fn loopback_fault(body: &[u8]) -> u8
+    ensures { λ r. ⌜ r ≡ loopbackFault (now (body .entry)) ⌝ }
+{
+    if body.len() != BODY_LENGTH {
+        return WRONG_DATA;
+    }
+    if first_word(body) == 0 { 0 } else { WRONG_DATA }
+}
