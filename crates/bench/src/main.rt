@@ -63,6 +63,6 @@ fn serve(table: &mut [i32]) {
 
 fn main() {
     let mut table = [0i32; 12];
-    items::start(&mut table);
+    table::start(&mut table);
     serve(&mut table);
 }

@@ -12,10 +12,10 @@ use lib.ListN.{length, getD, take, drop}
 use Rattle.sign.proofs.Choice.{both, chosen}
 use Rattle.line.specs.Line.{isLineError}
 use Rattle.items.specs.ItemList.{items, itemAt, found}
-use Rattle.items.specs.Table.{inRange}
+use Rattle.items.specs.ItemList.{inRange}
 use Rattle.items.specs.declared.Found.{Found}
 use Rattle.items.specs.declared.Found.the-variants.{At, Nothing}
-use Rattle.items.proofs.Laws.{found-place}
+use Rattle.items.proofs.Lookup.{found-place}
 use Rattle.items.proofs.Lists.{passes-at}
 use Rattle.text.specs.Numbers.{width, mostDecimals}
 use Rattle.text.specs.Characters.{minusSign}

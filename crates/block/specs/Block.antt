@@ -6,7 +6,7 @@ use lib.Dec.{eqb, ltb}
 use lib.ListN.{getD, take, drop}
 use Rattle.line.specs.Line.{isLineError}
 use Rattle.items.specs.ItemList.{itemAt, found}
-use Rattle.items.specs.Table.{inRange}
+use Rattle.items.specs.ItemList.{inRange}
 use Rattle.items.specs.declared.Found.{Found}
 use Rattle.items.specs.declared.Found.the-variants.{At, Nothing}
 use Rattle.text.specs.Numbers.{width, numberOf}

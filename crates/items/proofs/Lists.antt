@@ -3,7 +3,7 @@
 -- Assumes nothing.
 use mathlib.Core.Path.{_≡_, refl, ap, _∙_}
 use mathlib.Core.Bool.{Bool, true, false, cond, _&&_}
-use mathlib.Core.List.{List, [], _∷_, _++_, map, append-nil}
+use mathlib.Core.List.{List, [], _∷_, map}
 use Prim.Native.Nat.{ℕ, zero, suc, _+_, _^_, _<_, _≤_}
 use native.Mathlib.Nat.{not-suc-le-zero, le-of-suc-le-suc}
 use native.Mathlib.Numerals.{add-one}
@@ -11,16 +11,15 @@ use native.Mathlib.Omega.{arith}
 use borrow.Author.Tests.{eqb-true, eqb-false}
 use lib.Dec.{eqb}
 use lib.IntN.{ℤ, pos}
-use lib.ListN.{length, getD, set, drop, drop-of-length-le, List·getD-eq-default, List·getD-map}
-use lib.Seq.{drop-cons, sets, sets-eq}
-use lib.Signed.{leZ, mag}
+use lib.ListN.{length, getD, drop, List·getD-eq-default, List·getD-map}
+use lib.Seq.{drop-cons}
+use lib.Signed.{mag}
 use mir.Syntax.{w32}
 use mir.Val.{toZ, ofZ}
 use Rattle.sign.proofs.Laws.{same}
 use Rattle.sign.proofs.Choice.{both}
 use Rattle.items.specs.declared.Found.the-variants.{At}
 use Rattle.items.specs.ItemList.{Item, items, itemList, noItem, itemAt, firstFrom}
-use Rattle.items.specs.Table.{allInRange, entry}
 
 -- what is read at a place inside a list does not depend on what stands past its end
 pub read-inside : {A : Type 0} (l : List A) (i : ℕ) (d e : A) → i < length l → getD l i d ≡ getD l i e
@@ -57,19 +56,3 @@ passes-at p (suc n) k e h = by (λ l. passes-at p n k (both (p n) (passes p n) e
 pub search-turn : (p : Item → Bool) (l : List Item) (i : ℕ) → i < length l
     → firstFrom i p (drop i l) ≡ cond (p (getD l i noItem)) (At i) (firstFrom (i + 1) p (drop (i + 1) l))
 search-turn p l i h = rw (add-one, drop-cons l i noItem)
-
--- a table's check, by what held before a place and the lines that are left
-pub check-turn : (inside : Bool) (l : List Item) (t : List ℤ) (i : ℕ) → i < length l → i < length t
-    → (inside && leZ (getD l i noItem .low) (entry t i) && leZ (entry t i) (getD l i noItem .high) && allInRange (drop (i + 1) l) (drop (i + 1) t))
-    ≡ (inside && allInRange (drop i l) (drop i t))
-check-turn true l t i h k = rw (add-one, drop-cons l i noItem, drop-cons t i (pos 0))
-check-turn false l t i h k = refl
-
--- storing a run of values, by those that are left
-pub store-turn : (t vs : List ℤ) (i : ℕ) → i < length vs → sets t i (drop i vs) ≡ sets (set t i (entry vs i)) (i + 1) (drop (i + 1) vs)
-store-turn t vs i h = rw (add-one, drop-cons vs i (pos 0))
-
--- a run that is as long as the table replaces it
-pub store-all : (t vs : List ℤ) → length t ≡ length vs → sets t 0 vs ≡ vs
-store-all t vs e =
-    sets-eq vs t 0 (omega arith) ∙ ap (λ (r : List ℤ). vs ++ r) (drop-of-length-le t {i = 0 + length vs} (omega arith)) ∙ append-nil vs

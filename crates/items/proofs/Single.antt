@@ -1,4 +1,4 @@
--- Two outcomes that meet one promise of this crate are the same outcome: a number alone, or a number and the table.
+-- Two answers that meet one promise of this crate are the same answer: each promise is an equation.
 -- Assumes nothing.
 use mathlib.Core.Path.{_≡_}
 use mathlib.Core.Bool.{Bool}
@@ -7,29 +7,7 @@ use Prim.Native.Nat.{ℕ}
 use lib.IntN.{ℤ}
 use Rattle.sign.proofs.Single.{single}
 use Rattle.items.specs.declared.Found.{Found}
-use Rattle.items.specs.ItemList.{itemAt, identifierOf, found, foundByRegister}
-use Rattle.items.specs.Table.{inRange, tableFault, startNumber, startTable, answered, stored, putNumber, putTable}
-use Rattle.items.specs.Promise.{Lent}
-
-pub lent-single : {n : ℕ} {t : List ℤ} {r s : ℕ} {u w : List ℤ} → Lent n t r u → Lent n t s w → (r ≡ s) × (u ≡ w)
-lent-single p q = (single (p .given) (q .given), single (p .left) (q .left))
-
-pub start-single : (t : List ℤ) {r s : ℕ} {u w : List ℤ} → Lent (startNumber t) (startTable t) r u
-    → Lent (startNumber t) (startTable t) s w → (r ≡ s) × (u ≡ w)
-start-single t = lent-single
-
-pub put-single : (t : List ℤ) (n : ℕ) (v : ℤ) {r s : ℕ} {u w : List ℤ} → Lent (putNumber t n v) (putTable t n v) r u
-    → Lent (putNumber t n v) (putTable t n v) s w → (r ≡ s) × (u ≡ w)
-put-single t n v = lent-single
-
-pub store-single : (t : List ℤ) (i : ℕ) (v : ℤ) {u w : List ℤ} → u ≡ stored t i v → w ≡ stored t i v → u ≡ w
-store-single t i v = single
-
-pub check-single : (t : List ℤ) {r s : ℕ} → r ≡ tableFault t → s ≡ tableFault t → r ≡ s
-check-single t = single
-
-pub answer-single : (t : List ℤ) (i : ℕ) {r s : ℤ} → r ≡ answered t i → s ≡ answered t i → r ≡ s
-answer-single t i = single
+use Rattle.items.specs.ItemList.{itemAt, identifierOf, inRange, found, foundByRegister}
 
 pub in-range-single : (i : ℕ) (v : ℤ) {r s : Bool} → r ≡ inRange i v → s ≡ inRange i v → r ≡ s
 in-range-single i v = single

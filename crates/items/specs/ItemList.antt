@@ -5,6 +5,7 @@ use mathlib.Core.List.{List, [], _∷_}
 use lib.Dec.{eqb}
 use lib.IntN.{ℤ, pos}
 use lib.ListN.{getD}
+use lib.Signed.{leZ}
 use Rattle.sign.specs.Sign.{minus}
 use Rattle.items.specs.declared.Found.{Found}
 use Rattle.items.specs.declared.Found.the-variants.{At, Nothing}
@@ -64,6 +65,13 @@ itemAt i = getD itemList i noItem
 -- an item's identifier
 abbrev pub identifierOf : Item → List ℕ
 identifierOf x = x .first ∷ x .second ∷ []
+
+-- a value from the item's low to its high
+abbrev pub fromLowToHigh : Item → ℤ → Bool
+fromLowToHigh x v = leZ (x .low) v && leZ v (x .high)
+
+unfoldable pub inRange : ℕ → ℤ → Bool
+inRange i v = fromLowToHigh (itemAt i) v
 
 -- the first line that passes a test, by its place; the lines left start at place i
 abbrev pub firstFrom : ℕ → (Item → Bool) → List Item → Found

@@ -1,3 +1,1 @@
 pub mod ItemList
-pub mod Table
-pub mod Promise

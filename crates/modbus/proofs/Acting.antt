@@ -6,7 +6,7 @@ use Prim.Native.Nat.{ℕ, _≤_, _<_}
 use borrow.Author.Tests.{eq-eqb, ne-eqb, le-leb, lt-leb}
 use lib.IntN.{ℤ}
 use lib.ListN.{length}
-use Rattle.items.specs.Table.{none}
+use Rattle.table.specs.Table.{none}
 use Rattle.modbus.specs.declared.Answered.{Answered}
 use Rattle.modbus.specs.Outcome.{Outcome, shortBuffer, otherAddress, unknownFunction, addressOf, functionOf, silent, exceptionReply, exception, unlessFault}
 use Rattle.modbus.specs.Rules.{readRegisters, writeRegister, loopback, reading, writing, loopingBack, obeying, acted, leastBuffer, actedWithin}

@@ -12,8 +12,8 @@ use lib.IntN.{ℤ}
 use lib.ListN.{length}
 use Rattle.sign.proofs.Choice.{chosen}
 use Rattle.items.specs.ItemList.{itemAt}
-use Rattle.items.specs.Table.{none, goodTable, entry}
-use Rattle.items.proofs.Laws.{good-stored, stored-read-only}
+use Rattle.table.specs.Table.{none, goodTable, entry}
+use Rattle.table.proofs.Laws.{good-stored, stored-read-only}
 use Rattle.registers.specs.Faults.{firstWord, secondWord, readFault, writeFault, written, loopbackFault}
 use Rattle.registers.proofs.Faults.{Numbered, read-numbered, write-numbered, loopback-numbered, read-accepted, write-accepted, loopback-accepted}
 use Rattle.modbus.specs.Outcome.{Outcome, otherAddress, unknownFunction, functionOf, silent, done, exceptionReply, exception, unlessFault}

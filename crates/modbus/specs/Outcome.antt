@@ -5,7 +5,7 @@ use mathlib.Core.List.{List, [], _∷_}
 use lib.Dec.{eqb, ltb}
 use lib.IntN.{ℤ}
 use lib.ListN.{getD}
-use Rattle.items.specs.Table.{none}
+use Rattle.table.specs.Table.{none}
 
 pub record Outcome : Type 0 where
   pub number : ℕ

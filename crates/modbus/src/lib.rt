@@ -5,7 +5,7 @@ ghost use Prim.Native.Nat.{_+_, _*_, _≤_, _<_};
 ghost use lib.IntN.{ℤ};
 ghost use lib.ListN.{length};
 ghost use lib.Seq.{sets};
-ghost use Rattle.items.specs.Table.{none};
+ghost use Rattle.table.specs.Table.{none};
 ghost use Rattle.registers.specs.Register.{registersFrom};
 ghost use Rattle.registers.specs.Faults.{readFault};
 ghost use Rattle.modbus.specs.Outcome.{topBitSet, exceptionReply};

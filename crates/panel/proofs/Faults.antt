@@ -12,7 +12,7 @@ use lib.ListN.{length}
 use Rattle.sign.proofs.Laws.{contrary}
 use Rattle.sign.proofs.Choice.{chosen}
 use Rattle.items.specs.ItemList.{items, itemList}
-use Rattle.items.specs.Table.{none, wrongLength, allInRange, tableFault}
+use Rattle.table.specs.Table.{none, wrongLength, allInRange, tableFault}
 use Rattle.rkc.specs.declared.Link.{Link}
 use Rattle.rkc.specs.State.{inPhase, inLimits}
 use Rattle.rkc.specs.Outcome.{Step, Outcome, received}

@@ -6,9 +6,9 @@ use Prim.Native.Nat.{ℕ}
 use lib.IntN.{ℤ}
 use lib.ListN.{length}
 use Rattle.sign.proofs.Single.{single}
-use Rattle.items.specs.Table.{startNumber, startTable, putNumber, putTable}
-use Rattle.items.specs.Promise.{Lent}
-use Rattle.items.proofs.Single.{lent-single}
+use Rattle.table.specs.Table.{startNumber, startTable, putNumber, putTable}
+use Rattle.table.specs.Promise.{Lent}
+use Rattle.table.proofs.Single.{lent-single}
 use Rattle.text.specs.Numbers.{width}
 use Rattle.text.specs.Reading.{reading}
 use Rattle.rkc.specs.Outcome.{Step, received, idled}

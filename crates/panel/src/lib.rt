@@ -4,8 +4,8 @@ ghost use mathlib.Core.Path.{_≡_};
 ghost use Prim.Native.Nat.{_≤_};
 ghost use lib.ListN.{length};
 ghost use lib.Seq.{sets};
-ghost use Rattle.items.specs.Table.{startNumber, startTable, putNumber, putTable};
-ghost use Rattle.items.specs.Promise.{Lent};
+ghost use Rattle.table.specs.Table.{startNumber, startTable, putNumber, putTable};
+ghost use Rattle.table.specs.Promise.{Lent};
 ghost use Rattle.text.specs.Numbers.{width};
 ghost use Rattle.text.specs.Reading.{reading};
 ghost use Rattle.rkc.specs.Outcome.{received, idled};
@@ -60,7 +60,7 @@ fn hold(state: &mut [u8], stepped: Stepped) -> u32
 pub extern "C" fn vb_start_table(table: &mut [i32]) -> u32
     ensures { λ r. ⌜ Lent (startNumber (now (table .entry))) (startTable (now (table .entry))) r (now (table .exit)) ⌝ }
 {
-    items::start(table) as u32
+    table::start(table) as u32
 }
 
 // The link starts at rest.
@@ -117,7 +117,7 @@ pub extern "C" fn vb_rtu(table: &mut [i32], reply: &mut [u8], address: u8, frame
 pub extern "C" fn vb_put(table: &mut [i32], item: u32, value: i32) -> u32
     ensures { λ r. ⌜ Lent (putNumber (now (table .entry)) item value) (putTable (now (table .entry)) item value) r (now (table .exit)) ⌝ }
 {
-    items::put(table, item, value) as u32
+    table::put(table, item, value) as u32
 }
 
 // Number text is read.

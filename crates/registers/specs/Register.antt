@@ -7,7 +7,7 @@ use lib.IntN.{ℤ, pos, negsuc}
 use Rattle.items.specs.declared.Found.{Found}
 use Rattle.items.specs.declared.Found.the-variants.{At, Nothing}
 use Rattle.items.specs.ItemList.{foundByRegister}
-use Rattle.items.specs.Table.{answered}
+use Rattle.table.specs.Table.{answered}
 
 -- n stands as n, and -(n + 1) as FFFFH - n; of a number that needs more than 16 bits the low 16 stand
 abbrev pub toRegister : ℤ → ℕ

@@ -71,7 +71,7 @@ pub fn register_at(table: &[i32], register: u16) -> u16
     ensures { λ r. ⌜ r ≡ registerAt (now (table .entry)) register ⌝ }
 {
     match items::find_register(register) {
-        Found::At(i) => to_register(items::answer(table, i)),
+        Found::At(i) => to_register(table::answer(table, i)),
         Found::Nothing => 0,
     }
 }
@@ -138,7 +138,7 @@ pub fn write_fault(body: &[u8]) -> u8
 pub fn store_value(table: &mut [i32], body: &[u8])
     ensures { λ _. ⌜ now (table .exit) ≡ written (now (table .entry)) (now (body .entry)) ⌝ }
 {
-    items::store(
+    table::store(
         table,
         place_of(first_word(body)),
         of_register(second_word(body)),

@@ -10,7 +10,7 @@ use lib.Dec.{eqb, leb}
 use lib.IntN.{ℤ}
 use Rattle.sign.proofs.Choice.{chosen}
 use Rattle.items.specs.ItemList.{itemAt}
-use Rattle.items.specs.Table.{none, tableFault, answered}
+use Rattle.table.specs.Table.{none, tableFault, answered}
 use Rattle.line.specs.Line.{sent, heard}
 use Rattle.phases.specs.Phases.{waiting}
 use Rattle.phases.specs.declared.Act.{Act}

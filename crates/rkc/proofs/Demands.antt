@@ -10,11 +10,11 @@ use lib.Dec.{eqb, leb}
 use lib.IntN.{ℤ, pos}
 use lib.Signed.{leZ}
 use Rattle.sign.proofs.Choice.{both, chosen}
-use Rattle.items.specs.ItemList.{Item, items, itemAt}
-use Rattle.items.specs.Table as table
-use Rattle.items.specs.Table.{none, tableFault, goodTable, entry}
+use Rattle.items.specs.ItemList.{Item, items, itemAt, inRange}
+use Rattle.table.specs.Table as table
+use Rattle.table.specs.Table.{none, tableFault, goodTable, entry}
 use Rattle.items.proofs.Lists.{passes, passes-at}
-use Rattle.items.proofs.Laws.{good-entry, good-stored, stored-read-only, answered-AA, answered-AB}
+use Rattle.table.proofs.Laws.{good-entry, good-stored, stored-read-only, answered-AA, answered-AB}
 use Rattle.line.specs.Line.{sent, heard}
 use Rattle.line.proofs.Parity.{sent-keeps}
 use Rattle.text.specs.Writing.{fits, text, accepted, written}
@@ -40,7 +40,7 @@ use Rattle.rkc.proofs.Replies.{received-reply, idled-reply}
 
 module _ (l : Link) (t : List ℤ) (structure time : ℕ) where
   stored-only : (c : ℕ) (P : List ℤ → Type 0) → P t
-      → ((i : ℕ) (v : ℤ) → itemAt i .writable ≡ true → table.inRange i v ≡ true → P (table.stored t i v))
+      → ((i : ℕ) (v : ℤ) → itemAt i .writable ≡ true → inRange i v ≡ true → P (table.stored t i v))
       → P (performed l t structure time (Judge c) .table)
   unfolding performed
   stored-only c P same new = by (verdict (l .mark) (l .bcc) (l .count) (l .kept) c) refl
@@ -51,7 +51,7 @@ module _ (l : Link) (t : List ℤ) (structure time : ℕ) where
 
   -- an act leaves the table, or stores a value in its range in a writable item
   leaves : (x : Act) (P : List ℤ → Type 0) → P t
-      → ((i : ℕ) (v : ℤ) → itemAt i .writable ≡ true → table.inRange i v ≡ true → P (table.stored t i v))
+      → ((i : ℕ) (v : ℤ) → itemAt i .writable ≡ true → inRange i v ≡ true → P (table.stored t i v))
       → P (performed l t structure time x .table)
   unfolding performed
   leaves (Go phase) P same new = same
@@ -190,7 +190,7 @@ module _ (i : ℕ) (h : i < items) where
   state-fits t limit = chosen FitsSix (leZ (entry t limit) (entry t table.M1)) (λ _. line-fits (λ x. pos 1) refl) (λ _. line-fits (λ x. pos 0) refl)
 
   entry-fits : (t : List ℤ) → goodTable t ≡ true → FitsSix (entry t i)
-  unfolding table.inRange fits
+  unfolding inRange fits
   entry-fits t g =
       let r = both (leZ (itemAt i .low) (entry t i)) (leZ (entry t i) (itemAt i .high)) (good-entry t i g h) in
       between-fits 6 (itemAt i .decimals) (itemAt i .low) (itemAt i .high) (entry t i) (r .0) (r .1) (line-fits (λ x. x .low) refl) (line-fits (λ x. x .high) refl)

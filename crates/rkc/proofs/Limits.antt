@@ -13,9 +13,9 @@ use Rattle.sign.proofs.Choice.{both, chosen}
 use Rattle.items.specs.declared.Found.{Found}
 use Rattle.items.specs.declared.Found.the-variants.{At, Nothing}
 use Rattle.items.specs.ItemList.{items, itemAt, found}
-use Rattle.items.specs.Table as table
-use Rattle.items.specs.Table.{none}
-use Rattle.items.proofs.Laws.{found-place}
+use Rattle.table.specs.Table as table
+use Rattle.table.specs.Table.{none}
+use Rattle.items.proofs.Lookup.{found-place}
 use Rattle.line.specs.Line.{ETX, topBit, lowSeven, within}
 use Rattle.line.proofs.Laws.{within-in, within-true, low-seven-small, taken-small}
 use Rattle.text.specs.Writing.{written}

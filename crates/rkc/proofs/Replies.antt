@@ -11,7 +11,7 @@ use lib.IntN.{ℤ}
 use lib.ListN.{length, length-append, length-map}
 use Rattle.sign.proofs.Choice.{chosen}
 use Rattle.items.specs.ItemList.{itemAt, found}
-use Rattle.items.specs.Table.{none, answered}
+use Rattle.table.specs.Table.{none, answered}
 use Rattle.items.specs.declared.Found.{Found}
 use Rattle.items.specs.declared.Found.the-variants.{At, Nothing}
 use Rattle.line.specs.Line.{ETX, EOT, ACK, NAK, sent, heard, bcc}

@@ -6,7 +6,7 @@ use Prim.Native.Nat.{ℕ, _+_}
 use lib.IntN.{ℤ}
 use lib.Signed.{leZ}
 use Rattle.items.specs.ItemList.{itemAt}
-use Rattle.items.specs.Table.{none, goodTable, entry, M1, AA, AB, A1, A2}
+use Rattle.table.specs.Table.{none, goodTable, entry, M1, AA, AB, A1, A2}
 use Rattle.line.specs.Line.{keeps, sent}
 use Rattle.rkc.specs.declared.Link.{Link}
 use Rattle.rkc.specs.State.{waitingOn, inLimits}

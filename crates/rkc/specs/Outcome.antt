@@ -8,7 +8,7 @@ use lib.ListN.{getD}
 use Rattle.items.specs.declared.Found.{Found}
 use Rattle.items.specs.declared.Found.the-variants.{At, Nothing}
 use Rattle.items.specs.ItemList.{itemAt, found}
-use Rattle.items.specs.Table.{none, tableFault, answered, stored}
+use Rattle.table.specs.Table.{none, tableFault, answered, stored}
 use Rattle.line.specs.Line.{STX, ETX, EOT, ACK, NAK, sent, heard, bcc}
 use Rattle.text.specs.Numbers.{width}
 use Rattle.text.specs.declared.Written.{Written}

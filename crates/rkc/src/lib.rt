@@ -355,7 +355,7 @@ impl Link {
     fn byte_fault(self, table: &[i32], buffer: usize, address: u8, structure: u8) -> u8
         ensures { λ r. ⌜ r ≡ byteFault self (now (table .entry)) buffer address structure ⌝ }
     {
-        let number = items::check(table);
+        let number = table::check(table);
         if number != 0 {
             return number;
         }
@@ -470,7 +470,7 @@ fn send_item(table: &[i32], reply: &mut [u8], structure: u8, time: u32, i: usize
     requires { ⌜ (256 ≤ length (now reply)) × (i < items) ⌝ }
     ensures { λ r. ⌜ Steps (itemSent structure time (now (table .entry)) i) r (now (reply .entry)) (now (reply .exit)) ⌝ }
 {
-    let value = items::answer(table, i);
+    let value = table::answer(table, i);
     let written = text::write(items::decimals(i), value);
     let six = written.chars;
     if written.number == 0 {
@@ -506,7 +506,7 @@ impl Link {
         let kept = self.kept;
         match block::judge(self.mark, self.bcc, self.count, kept, c) {
             Verdict::Store(i, value) => {
-                items::store(table, i, value);
+                table::store(table, i, value);
                 send_one(reply, structure, ACK, in_phase(ANSWERED), 0)
             }
             Verdict::Refuse(number) => send_one(reply, structure, NAK, in_phase(ANSWERED), number),

@@ -10,8 +10,8 @@ use lib.IntN.{ℤ}
 use lib.ListN.{length}
 use lib.Seq.{sets}
 use Rattle.items.specs.ItemList.{itemAt}
-use Rattle.items.specs.Table.{none, goodTable, entry}
-use Rattle.items.proofs.Laws.{good-entry}
+use Rattle.table.specs.Table.{none, goodTable, entry}
+use Rattle.table.proofs.Laws.{good-entry}
 use Rattle.crc.specs.Crc.{bodyOf}
 use Rattle.crc.specs.Damage.{Spoils, flip}
 use Rattle.crc.proofs.Flip.{flip-length}

@@ -10,7 +10,7 @@ use lib.Dec.{eqb, leb}
 use lib.IntN.{ℤ}
 use lib.ListN.{length}
 use Rattle.sign.proofs.Choice.{both}
-use Rattle.items.specs.Table.{none, tableFault}
+use Rattle.table.specs.Table.{none, tableFault}
 use Rattle.crc.specs.Crc.{isRight}
 use Rattle.registers.specs.Faults.{must}
 use Rattle.registers.proofs.Faults.{must-none}

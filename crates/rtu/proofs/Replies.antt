@@ -10,7 +10,7 @@ use lib.IntN.{ℤ}
 use lib.ListN.{length}
 use lib.Seq.{sets, length-sets}
 use Rattle.sign.proofs.Choice.{chosen}
-use Rattle.items.specs.Table.{none}
+use Rattle.table.specs.Table.{none}
 use Rattle.crc.specs.Crc.{framed, bodyOf, sealed, sealedLength, Seals}
 use Rattle.crc.proofs.Framed.{length-framed}
 use Rattle.crc.proofs.Sealed.{with-room, sealed-body}

@@ -5,7 +5,8 @@ use mathlib.Core.List.{List}
 use Prim.Native.Nat.{ℕ, _<_}
 use lib.IntN.{ℤ}
 use Rattle.items.specs.ItemList.{items, itemAt}
-use Rattle.items.specs.Table.{inRange, goodTable, entry}
+use Rattle.items.specs.ItemList.{inRange}
+use Rattle.table.specs.Table.{goodTable, entry}
 use Rattle.modbus.specs.declared.Answered.{Answered}
 use Rattle.modbus.specs.Outcome.{unknownFunction}
 use Rattle.rtu.specs.Promise.{Untouched}

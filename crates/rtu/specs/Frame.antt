@@ -5,7 +5,7 @@ use mathlib.Core.List.{List, [], _∷_}
 use lib.Dec.{eqb, leb}
 use lib.IntN.{ℤ}
 use lib.ListN.{length}
-use Rattle.items.specs.Table.{none, tableFault}
+use Rattle.table.specs.Table.{none, tableFault}
 use Rattle.crc.specs.Crc.{framed, bodyOf, isRight}
 use Rattle.registers.specs.Faults.{must}
 use Rattle.modbus.specs.Outcome.{Outcome, shortBuffer, silent}

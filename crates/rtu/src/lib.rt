@@ -1,7 +1,7 @@
 // One Modbus RTU frame: the message rules between a test of its CRC and a reply that is sealed with one.
 ghost use mathlib.Core.Path.{_≡_};
 ghost use lib.ListN.{length};
-ghost use Rattle.items.specs.Table.{none};
+ghost use Rattle.table.specs.Table.{none};
 ghost use Rattle.crc.specs.Crc.{bodyOf};
 ghost use Rattle.modbus.specs.Rules.{acted};
 ghost use Rattle.modbus.specs.Promise.{Gives};
@@ -29,7 +29,7 @@ const LONGEST: usize = 256;
 fn call_fault(table: &[i32], room: usize, address: u8) -> u8
     ensures { λ r. ⌜ r ≡ callFault (now (table .entry)) room address ⌝ }
 {
-    let fault = items::check(table);
+    let fault = table::check(table);
     if fault != 0 {
         return fault;
     }

@@ -4,7 +4,8 @@ use mathlib.Core.Path.{_≡_, refl}
 use mathlib.Core.List.{map}
 use lib.Count.{ones}
 use Rattle.items.specs.ItemList.{found}
-use Rattle.items.specs.Table.{inRange, tableFault, startValues, stored}
+use Rattle.items.specs.ItemList.{inRange}
+use Rattle.table.specs.Table.{tableFault, startValues, stored}
 use Rattle.line.specs.Line.{keeps, heard, sent, bccFrom}
 use Rattle.text.specs.Reading.{reading}
 use Rattle.text.specs.Writing.{fits, text, written}

@@ -9,7 +9,7 @@ use lib.IntN.{ℤ, pos}
 use lib.ListN.{getD}
 use Rattle.sign.specs.Sign.{minus}
 use Rattle.items.specs.ItemList.{found}
-use Rattle.items.specs.Table.{none, startValues, entry}
+use Rattle.table.specs.Table.{none, startValues, entry}
 use Rattle.line.specs.Line.{STX, ETX, EOT, ACK, sent, bcc}
 use Rattle.text.specs.Numbers.{width, doesNotFit, noNumber}
 use Rattle.text.specs.Writing.{written}

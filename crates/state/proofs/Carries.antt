@@ -14,7 +14,7 @@ use Rattle.sign.proofs.Choice.{chosen}
 use Rattle.items.specs.declared.Found.{Found}
 use Rattle.items.specs.declared.Found.the-variants.{At, Nothing}
 use Rattle.items.specs.ItemList.{itemAt, found}
-use Rattle.items.specs.Table.{none, answered}
+use Rattle.table.specs.Table.{none, answered}
 use Rattle.text.specs.Numbers.{width}
 use Rattle.text.specs.Writing.{written}
 use Rattle.phases.specs.Phases.{oneCharacter, twoCharacters, waiting}

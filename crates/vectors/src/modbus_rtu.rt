@@ -60,7 +60,7 @@ pub fn rtu(address: u8, frame: &[u8]) {
     show::bytes(frame);
     let mut table = [0i32; 12];
     let mut reply = [0u8; 256];
-    items::start(&mut table);
+    table::start(&mut table);
     let answered = rtu::frame(&mut table, &mut reply, address, frame);
     show_answer(answered, &reply, false);
 }
@@ -87,7 +87,7 @@ pub fn ask(address: u8, request: &[u8]) {
     show::byte(address);
     show::bytes(request);
     let mut table = [0i32; 12];
-    items::start(&mut table);
+    table::start(&mut table);
     show_exchange(&mut table, address, request, false);
 }
 
@@ -101,8 +101,8 @@ pub fn ask_with_m1(address: u8, value: i32, request: &[u8]) {
     show::byte(address);
     show::bytes(request);
     let mut table = [0i32; 12];
-    items::start(&mut table);
-    items::put(&mut table, M1, value);
+    table::start(&mut table);
+    table::put(&mut table, M1, value);
     show_exchange(&mut table, address, request, false);
 }
 
@@ -110,7 +110,7 @@ pub fn pdu(request: &[u8]) {
     show::text(b"pdu");
     show::bytes(request);
     let mut table = [0i32; 12];
-    items::start(&mut table);
+    table::start(&mut table);
     show_exchange(&mut table, 1, request, true);
 }
 
@@ -121,8 +121,8 @@ pub fn register(value: i32) {
     show::arrow();
     let mut table = [0i32; 12];
     let mut reply = [0u8; 256];
-    items::start(&mut table);
-    items::put(&mut table, S1, value);
+    table::start(&mut table);
+    table::put(&mut table, S1, value);
     exchange(&mut table, &mut reply, 1, b"\x03\x00\x0B\x00\x01");
     show::register(reply[3], reply[4]);
     show::end_of_line();

@@ -48,14 +48,14 @@ fn bring(place: usize, chars: &[u8]) -> Brought {
     let front = [EOT, b'0', b'1', STX, name[0], name[1]];
     let end = [ETX, name[0] ^ name[1] ^ line::bcc(chars) ^ ETX];
     let mut table = [0i32; 12];
-    items::start(&mut table);
+    table::start(&mut table);
     let opened = hear(Link::start(), &mut table, &front, false);
     let told = hear(opened.link, &mut table, chars, false);
     let judged = hear(told.link, &mut table, &end, false);
     Brought {
         number: judged.number,
         answered: judged.len == 1,
-        value: items::answer(&table, place),
+        value: table::answer(&table, place),
     }
 }
 
@@ -113,8 +113,8 @@ pub fn poll_m1(value: i32) {
     show::value(value);
     show::arrow();
     let mut table = [0i32; 12];
-    items::start(&mut table);
-    items::put(&mut table, M1, value);
+    table::start(&mut table);
+    table::put(&mut table, M1, value);
     let poll = [EOT, b'0', b'1', b'M', b'1', ENQ];
     hear(Link::start(), &mut table, &poll, true);
     show::end_of_line();
@@ -125,7 +125,7 @@ pub fn bench(bytes: &[u8]) {
     show::bytes(bytes);
     show::arrow();
     let mut table = [0i32; 12];
-    items::start(&mut table);
+    table::start(&mut table);
     hear(Link::start(), &mut table, bytes, true);
     show::end_of_line();
 }

@@ -1,10 +1,10 @@
--- `panel::vb_put` meets its contract: it is that of `items::put`, of the value that the machine reads back. Assumes nothing.
+-- `panel::vb_put` meets its contract: it is that of `table::put`, of the value that the machine reads back. Assumes nothing.
 use borrow.Author.Needs.{needs}
 use mathlib.Core.Path.{subst}
 use lib.IntN.{ℤ}
 use Rattle.sign.proofs.Laws.{read-back}
-use Rattle.items.specs.Table.{putNumber, putTable}
-use Rattle.items.specs.Promise.{Lent}
+use Rattle.table.specs.Table.{putNumber, putTable}
+use Rattle.table.specs.Promise.{Lent}
 use Rattle.panel.proofs.vb_put.Statement.{statement}
 use Rattle.panel.proofs.vb_put.Tie as tie
 

@@ -1,7 +1,7 @@
 -- `registers::store_value` meets its contract: the place and the value are those of the request. Assumes nothing.
 use mathlib.Core.Path.{ap, ap₂, _∙_}
 use Rattle.sign.proofs.Laws.{same}
-use Rattle.items.specs.Table.{stored}
+use Rattle.table.specs.Table.{stored}
 use Rattle.registers.specs.Register.{ofRegister}
 use Rattle.registers.specs.Faults.{placeOf, written}
 use borrow.Author.Needs.{needs}

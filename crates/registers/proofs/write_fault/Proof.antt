@@ -4,7 +4,8 @@ use mathlib.Core.Bool.{Bool, cond}
 use Prim.Native.Nat.{ℕ}
 use Rattle.sign.proofs.Laws.{same}
 use Rattle.items.specs.ItemList.{itemAt}
-use Rattle.items.specs.Table.{none, inRange}
+use Rattle.items.specs.ItemList.{inRange}
+use Rattle.table.specs.Table.{none}
 use Rattle.registers.specs.Register.{ofRegister}
 use Rattle.registers.specs.Faults.{wrongData, firstWord, placeOf, writable, writeFault}
 use Rattle.registers.proofs.Faults.{wrong-length, write-refused, write-ranged}

@@ -1,7 +1,7 @@
 -- `rkc::poll` meets its contract: what was found is sent, or EOT. Assumes nothing.
 use borrow.Author.Needs.{needs}
 use mathlib.Core.Path.{sym, ap, _∙_}
-use Rattle.items.proofs.Laws.{found-place}
+use Rattle.items.proofs.Lookup.{found-place}
 use Rattle.rkc.specs.Outcome.{polled}
 use Rattle.rkc.proofs.Cases.{steps-by}
 use Rattle.rkc.proofs.poll.Statement.{statement}

@@ -4,7 +4,7 @@ use mathlib.Core.Path.{_≡_, _∙_}
 use lib.ListN.{length-map}
 use Rattle.sign.proofs.Laws.{same}
 use Rattle.items.specs.ItemList.{itemAt}
-use Rattle.items.specs.Table.{answered}
+use Rattle.table.specs.Table.{answered}
 use Rattle.text.specs.Writing.{written}
 use Rattle.rkc.proofs.Cases.{steps-by, item-fits, item-too-long}
 use Rattle.rkc.proofs.send_item.Statement.{statement}

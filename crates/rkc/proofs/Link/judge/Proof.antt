@@ -1,7 +1,7 @@
 -- `Link::judge` meets its contract: ACK with the item stored, or NAK. Assumes nothing.
 use borrow.Author.Needs.{needs}
 use mathlib.Core.Path.{refl, sym, ap, _∙_}
-use Rattle.items.specs.Table.{stored}
+use Rattle.table.specs.Table.{stored}
 use Rattle.rkc.specs.Outcome.{judged}
 use Rattle.rkc.proofs.Cases.{leads-by}
 use Rattle.rkc.proofs.Link.judge.Statement.{statement}

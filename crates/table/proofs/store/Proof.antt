@@ -1,12 +1,12 @@
--- `items::store` meets its contract: past the table's end `set` leaves the list. Assumes nothing.
+-- `table::store` meets its contract: past the table's end `set` leaves the list. Assumes nothing.
 use borrow.Author.Needs.{needs}
 use mathlib.Core.Path.{sym, ap}
 use lib.ListN.{set}
 use lib.Seq.{set-out}
 use Rattle.sign.proofs.Laws.{same}
-use Rattle.items.specs.Table.{stored}
-use Rattle.items.proofs.store.Statement.{statement}
-use Rattle.items.proofs.store.Tie as tie
+use Rattle.table.specs.Table.{stored}
+use Rattle.table.proofs.store.Statement.{statement}
+use Rattle.table.proofs.store.Tie as tie
 
 mul-value : tie.Need-mul-value
 mul-value c = search needs

@@ -1,13 +1,13 @@
--- `items::alarm_state` meets its contract: the machine's comparison is that of the two entries. Assumes nothing.
+-- `table::alarm_state` meets its contract: the machine's comparison is that of the two entries. Assumes nothing.
 use borrow.Author.Needs.{needs}
 use mathlib.Core.Path.{_≡_, sym, _∙_, ap₂}
 use lib.Signed.{leZ}
 use mir.Syntax.{w32}
 use mir.Val.{toZ, ofZ}
 use Rattle.sign.proofs.Laws.{same}
-use Rattle.items.specs.Table.{alarm, entry, M1}
-use Rattle.items.proofs.alarm_state.Statement.{statement}
-use Rattle.items.proofs.alarm_state.Tie as tie
+use Rattle.table.specs.Table.{alarm, entry, M1}
+use Rattle.table.proofs.alarm_state.Statement.{statement}
+use Rattle.table.proofs.alarm_state.Tie as tie
 
 entry-at-requires : tie.Need-entry-at-requires
 entry-at-requires c κs = search needs

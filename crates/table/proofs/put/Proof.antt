@@ -1,14 +1,15 @@
--- `items::put` meets its contract: each way out is one of the cases of `putNumber`. Assumes nothing.
+-- `table::put` meets its contract: each way out is one of the cases of `putNumber`. Assumes nothing.
 use borrow.Author.Needs.{needs}
 use mathlib.Core.Path.{_≡_, ap, _∙_}
 use mathlib.Core.Bool.{Bool, cond}
 use native.Mathlib.Omega.{arith}
 use Prim.Native.Nat.{_-_}
 use Rattle.sign.proofs.Laws.{same}
-use Rattle.items.specs.Table.{none, valueOutside, inRange, stored, putNumber}
-use Rattle.items.proofs.Laws.{put-fault, put-below, put-above, put-ranged, put-refused, put-accepted}
-use Rattle.items.proofs.put.Statement.{statement}
-use Rattle.items.proofs.put.Tie as tie
+use Rattle.items.specs.ItemList.{inRange}
+use Rattle.table.specs.Table.{none, valueOutside, stored, putNumber}
+use Rattle.table.proofs.Laws.{put-fault, put-below, put-above, put-ranged, put-refused, put-accepted}
+use Rattle.table.proofs.put.Statement.{statement}
+use Rattle.table.proofs.put.Tie as tie
 
 check-requires : tie.Need-check-requires
 check-requires c κs = search needs

@@ -1,10 +1,10 @@
--- `items::entry_at` meets its contract. Assumes nothing.
+-- `table::entry_at` meets its contract. Assumes nothing.
 use borrow.Author.Needs.{needs}
 use mathlib.Core.Path.{sym}
 use lib.IntN.{pos}
 use lib.ListN.{List·getD-eq-default}
-use Rattle.items.proofs.entry_at.Statement.{statement}
-use Rattle.items.proofs.entry_at.Tie as tie
+use Rattle.table.proofs.entry_at.Statement.{statement}
+use Rattle.table.proofs.entry_at.Tie as tie
 
 returns : tie.Need-returns
 returns c = sym (List·getD-eq-default (c .before .args .table .now) (pos 0) (c .if1 .taken))

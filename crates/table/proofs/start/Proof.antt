@@ -1,4 +1,4 @@
--- `items::start` meets its contract. The loop's invariant: storing the start values that are left gives the table that
+-- `table::start` meets its contract. The loop's invariant: storing the start values that are left gives the table that
 -- storing all of them gives. Assumes nothing.
 use borrow.Author.Needs.{needs}
 use borrow.Author.Tests.{eq-eqb, ne-eqb}
@@ -11,11 +11,11 @@ use lib.Seq.{sets}
 use mathlib.Core.List.{List}
 use mir.Syntax.{w32}
 use mir.Val.{toZ, ofZ}
 use Rattle.items.specs.ItemList.{items}
-use Rattle.items.specs.Table.{startValues, startNumber, startTable, entry}
-use Rattle.items.proofs.Lists.{store-turn, store-all}
-use Rattle.items.proofs.start.Statement.{statement}
-use Rattle.items.proofs.start.Tie as tie
+use Rattle.table.specs.Table.{startValues, startNumber, startTable, entry}
+use Rattle.table.proofs.Turns.{store-turn, store-all}
+use Rattle.table.proofs.start.Statement.{statement}
+use Rattle.table.proofs.start.Tie as tie
 
 abbrev Inv-loop : tie.InvT-loop
 Inv-loop table₀ i₀ table i =

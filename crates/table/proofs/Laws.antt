@@ -1,10 +1,9 @@
--- The laws that the crates above use: a good table stays good, what a store leaves alone, where a search ends, and when an
--- alarm state is 1.
+-- The laws that the crates above use: a good table stays good, what a store leaves alone, and when an alarm state is 1.
 -- Assumes nothing.
 use mathlib.Core.Path.{_≡_, refl, sym, ap, _∙_}
 use mathlib.Core.Bool.{Bool, true, false, cond, _&&_}
 use mathlib.Core.List.{List, [], _∷_}
-use Prim.Native.Nat.{ℕ, zero, suc, _+_, _-_, _<_, _≤_}
+use Prim.Native.Nat.{ℕ, zero, suc, _-_, _<_, _≤_}
 use native.Mathlib.Nat.{not-suc-le-zero, le-of-suc-le-suc}
 use native.Mathlib.Omega.{arith}
 use borrow.Author.Tests.{eq-eqb, ne-eqb, eqb-true, leb-true, le-leb, lt-leb}
@@ -15,11 +14,11 @@ use lib.Seq.{getD-set-other}
 use lib.Signed.{leZ}
 use Rattle.sign.proofs.Laws.{contrary}
 use Rattle.sign.proofs.Choice.{both}
 use Rattle.items.specs.ItemList.{Item}
-use Rattle.items.specs.declared.Found.the-variants.{At}
-use Rattle.items.specs.ItemList.{items, itemList, noItem, itemAt, firstFrom, named, found}
-use Rattle.items.specs.Table.{none, fromLowToHigh, inRange, allInRange, tableFault, goodTable, startValues, entry, M1, AA, AB, A1, A2, alarm, answered, stored, noSuchItem, valueOutside, putNumber, putTable}
-use Rattle.items.specs.Promise.{Lent}
+use Rattle.items.specs.ItemList.{items, itemList, noItem, itemAt}
+use Rattle.items.specs.ItemList.{fromLowToHigh, inRange}
+use Rattle.table.specs.Table.{none, allInRange, tableFault, goodTable, startValues, entry, M1, AA, AB, A1, A2, alarm, answered, stored, noSuchItem, valueOutside, putNumber, putTable}
+use Rattle.table.specs.Promise.{Lent}
 
 -- ---- a good table
 
@@ -141,33 +140,6 @@ good-put t n v g = rw g (by (leb 1 n && leb n items) (inRange (n - 1) v) refl)
     by true true r = good-stored t (n - 1) v g r
     by true false r = g
     by false b r = g
-
--- ---- looking up
-
--- a search ends at a place of the list whose line passes
-first-passes : (p : Item → Bool) (xs : List Item) (i j : ℕ) → firstFrom i p xs ≡ At j
-    → (i ≤ j) × (j < i + length xs) × (p (getD xs (j - i) noItem) ≡ true)
-first-passes p [] i j e = absurd (let z : _≡_ {A = ℕ} 0 1 = cc in omega arith)
-first-passes p (x ∷ xs) i j e = by (first-passes p xs (suc i) j) (p x) refl e
-  where
-    here : i ≡ j → p x ≡ true → p (getD (x ∷ xs) (j - i) noItem) ≡ true
-    here q t = let z : j - i ≡ 0 = omega arith in rw z t
-
-    there : suc i ≤ j → p (getD xs (j - suc i) noItem) ≡ true → p (getD (x ∷ xs) (j - i) noItem) ≡ true
-    there h t = let z : j - i ≡ suc (j - suc i) = omega arith in rw z t
-
-    by : (firstFrom (suc i) p xs ≡ At j → (suc i ≤ j) × (j < suc i + length xs) × (p (getD xs (j - suc i) noItem) ≡ true))
-        → (t : Bool) → p x ≡ t → cond t (At i) (firstFrom (suc i) p xs) ≡ At j
-        → (i ≤ j) × (j < i + length (x ∷ xs)) × (p (getD (x ∷ xs) (j - i) noItem) ≡ true)
-    by rest true t q = let z : i ≡ j = cc in (omega arith, omega arith, here z t)
-    by rest false t q = let r = rest q in (omega (arith, r .0), omega (arith, r .1), there (r .0) (r .2))
-
-pub found-place : (a b j : ℕ) → found a b ≡ At j → (j < items) × (named a b (itemAt j) ≡ true)
-unfolding found
-found-place a b j e =
-    let r = first-passes (named a b) itemList 0 j e in
-    let z : j - 0 ≡ j = omega arith in
-    (r .1, sym (ap (λ (k : ℕ). named a b (itemAt k)) z) ∙ r .2)
 
 -- ---- the alarm states
 

@@ -1,11 +1,11 @@
--- `items::answer` meets its contract: the two alarm states are worked out, any other answer is the entry. Assumes nothing.
+-- `table::answer` meets its contract: the two alarm states are worked out, any other answer is the entry. Assumes nothing.
 use borrow.Author.Needs.{needs}
 use borrow.Author.Tests.{ne-eqb}
 use mathlib.Core.Path.{_∙_}
 use Rattle.sign.proofs.Laws.{same}
-use Rattle.items.specs.Table.{answered}
-use Rattle.items.proofs.answer.Statement.{statement}
-use Rattle.items.proofs.answer.Tie as tie
+use Rattle.table.specs.Table.{answered}
+use Rattle.table.proofs.answer.Statement.{statement}
+use Rattle.table.proofs.answer.Tie as tie
 
 alarm-state-requires : tie.Need-alarm-state-requires
 alarm-state-requires c κs = search needs

@@ -6,8 +6,7 @@ use lib.Dec.{eqb, leb}
 use lib.IntN.{ℤ, pos}
 use lib.ListN.{getD, set, length}
 use lib.Signed.{leZ}
-use Rattle.items.specs.ItemList.{Item}
-use Rattle.items.specs.ItemList.{items, itemList, itemAt}
+use Rattle.items.specs.ItemList.{Item, items, itemList, fromLowToHigh, inRange}
 
 -- the numbers given back here; 0 is none
 abbrev pub none : ℕ
@@ -24,13 +23,6 @@ noSuchItem = 6
 
 abbrev pub valueOutside : ℕ
 valueOutside = 7
-
--- a value from the item's low to its high
-abbrev pub fromLowToHigh : Item → ℤ → Bool
-fromLowToHigh x v = leZ (x .low) v && leZ v (x .high)
-
-unfoldable pub inRange : ℕ → ℤ → Bool
-inRange i v = fromLowToHigh (itemAt i) v
 
 -- each entry is in the range of its item
 abbrev pub allInRange : List Item → List ℤ → Bool

@@ -1,4 +1,4 @@
--- `items::check` meets its contract. The loop's invariant: the table is in range where the entries before i are, as `inside` says,
+-- `table::check` meets its contract. The loop's invariant: the table is in range where the entries before i are, as `inside` says,
 -- and what is left of it is. Assumes nothing.
 use borrow.Author.Needs.{needs}
 use borrow.Author.Tests.{eq-eqb, ne-eqb}
@@ -9,11 +9,12 @@ use Prim.Native.Nat.{_-_, _≤_}
 use native.Mathlib.Omega.{arith}
 use lib.ListN.{drop, drop-of-length-le}
 use Rattle.sign.proofs.Laws.{same}
 use Rattle.items.specs.ItemList.{Item, items, itemList}
-use Rattle.items.specs.Table.{allInRange, tableFault}
-use Rattle.items.proofs.Lists.{limit, check-turn}
-use Rattle.items.proofs.check.Statement.{statement}
-use Rattle.items.proofs.check.Tie as tie
+use Rattle.table.specs.Table.{allInRange, tableFault}
+use Rattle.items.proofs.Lists.{limit}
+use Rattle.table.proofs.Turns.{check-turn}
+use Rattle.table.proofs.check.Statement.{statement}
+use Rattle.table.proofs.check.Tie as tie
 
 abbrev Inv-loop : tie.InvT-loop
 Inv-loop table lows highs inside₀ i₀ inside i =
