@@ -1,7 +1,9 @@
 -- `panel::vb_write_text` meets its contract: without room nothing is written, and else what `text::write` gives. Assumes nothing.
 use borrow.Author.Needs.{needs}
 use mathlib.Core.Path.{ap, _∙_}
+use native.Mathlib.Omega.{arith}
 use borrow.Author.Tests.{le-leb, lt-leb}
+use lib.ListN.{length}
 use Rattle.sign.proofs.Laws.{read-back}
 use Rattle.text.specs.Numbers.{width}
 use Rattle.text.specs.Writing.{written}
@@ -10,7 +12,7 @@ use Rattle.panel.proofs.vb_write_text.Tie as tie
 
 returns : tie.Need-returns
 returns c =
-    let narrow = lt-leb _ _ (c .if1 .taken) in
+    let narrow = lt-leb width (length (c .before .before .args .chars .now)) (omega arith) in
     record { given = rw narrow; left = rw narrow }
 
 write-requires : tie.Need-write-requires

@@ -27,7 +27,7 @@ negative-holds (suc n) h = record { sfits = omega arith }
 sub-result : tie.Need-sub-result
 sub-result c =
     let n = c .before .before .args .size in
-    let h = c .before .if1 .taken in
+    let h : n < 2 ^ 31 = omega arith in
     rw (from-zero n h) (negative-holds n h)
 
 -- stated apart: at the goal `rw` would rewrite the same test inside `toZ w32 n` too
@@ -37,13 +37,13 @@ small n below h = rw (lt-ltb n (2 ^ 31) h)
 returns : tie.Need-returns
 returns c =
     let n = c .before .before .args .size in
-    let h = c .before .if1 .taken in
+    let h : n < 2 ^ 31 = omega arith in
     toZ-ofZ {w = w32} (sub-result c) ∙ from-zero n h ∙ ap (λ (b : Bool). signed b n) (sym (c .if2 .taken)) ∙ small n (c .before .before .args .minus) h
 
 returns-2 : tie.Need-returns-2
 returns-2 c =
     let n = c .before .before .args .size in
-    let h = c .before .if1 .taken in
+    let h : n < 2 ^ 31 = omega arith in
     toZ-pos w32 h ∙ ap (λ (b : Bool). signed b n) (sym (c .if2 .left)) ∙ small n (c .before .before .args .minus) h
 
 returns-3 : tie.Need-returns-3

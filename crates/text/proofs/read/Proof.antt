@@ -6,7 +6,7 @@ use native.Mathlib.Omega.{arith}
 use borrow.Author.Tests.{lt-ltb, le-ltb}
 use lib.ListN.{length}
 use mir.Val.{boolByte}
-use Rattle.text.specs.Numbers.{mostDecimals}
+use Rattle.text.specs.Numbers.{width, mostDecimals}
 use Rattle.text.specs.Reading.{ofUnsigned, reading}
 use Rattle.text.proofs.Steps.{empty, minusFirst, rest, sign-apart, sign-within}
 use borrow.Author.Needs.{needs}
@@ -15,13 +15,13 @@ use Rattle.text.proofs.read.Tie as tie
 
 returns : tie.Need-returns
 unfolding reading
-returns c = rw (lt-ltb mostDecimals (c .before .before .args .decimals) (c .if1 .taken))
+returns c = rw (lt-ltb mostDecimals (c .before .before .args .decimals) (omega arith))
 
 returns-2 : tie.Need-returns-2
 unfolding reading
 returns-2 c =
     let s = c .before .before .before .args in
-    rw (le-ltb mostDecimals (s .decimals) (c .before .if1 .left), lt-ltb 6 (length (s .chars .now)) (c .if2 .taken))
+    rw (le-ltb mostDecimals (s .decimals) (omega arith), lt-ltb width (length (s .chars .now)) (omega arith))
 
 returns-3 : tie.Need-returns-3
 unfolding reading
