@@ -12,8 +12,7 @@ use lib.IntN.{ℤ}
 use lib.ListN.{length, getD, take, drop}
 use lib.Seq.{length-take-le, take-add, drop-at}
 use Rattle.line.specs.Line.{isLineError}
-use Rattle.items.specs.ItemList.{itemAt, found}
-use Rattle.items.specs.ItemList.{inRange}
+use Rattle.items.specs.ItemList.{itemAt, found, inRange}
 use Rattle.text.specs.Numbers.{width, numberOf}
 use Rattle.text.specs.Reading.{reading}
 use Rattle.text.specs.declared.Reading.{Reading}

@@ -11,8 +11,7 @@ use lib.IntN.{ℤ}
 use lib.ListN.{length, getD, take, drop}
 use Rattle.sign.proofs.Choice.{both, chosen}
 use Rattle.line.specs.Line.{isLineError}
-use Rattle.items.specs.ItemList.{items, itemAt, found}
-use Rattle.items.specs.ItemList.{inRange}
+use Rattle.items.specs.ItemList.{items, itemAt, found, inRange}
 use Rattle.items.specs.declared.Found.{Found}
 use Rattle.items.specs.declared.Found.the-variants.{At, Nothing}
 use Rattle.items.proofs.Lookup.{found-place}

@@ -5,8 +5,7 @@ use mathlib.Core.List.{List}
 use lib.Dec.{eqb, ltb}
 use lib.ListN.{getD, take, drop}
 use Rattle.line.specs.Line.{isLineError}
-use Rattle.items.specs.ItemList.{itemAt, found}
-use Rattle.items.specs.ItemList.{inRange}
+use Rattle.items.specs.ItemList.{itemAt, found, inRange}
 use Rattle.items.specs.declared.Found.{Found}
 use Rattle.items.specs.declared.Found.the-variants.{At, Nothing}
 use Rattle.text.specs.Numbers.{width, numberOf}

@@ -7,8 +7,7 @@ use lib.IntN.{ℤ}
 use lib.ListN.{getD, length}
 use Rattle.items.specs.declared.Found.{Found}
 use Rattle.items.specs.declared.Found.the-variants.{At, Nothing}
-use Rattle.items.specs.ItemList.{items, itemAt, foundByRegister}
-use Rattle.items.specs.ItemList.{inRange}
+use Rattle.items.specs.ItemList.{items, itemAt, foundByRegister, inRange}
 use Rattle.table.specs.Table.{none, stored}
 use Rattle.registers.specs.Register.{ofRegister, word}
 

@@ -4,8 +4,7 @@ use mathlib.Core.Bool.{true, false}
 use mathlib.Core.List.{List}
 use Prim.Native.Nat.{ℕ, _<_}
 use lib.IntN.{ℤ}
-use Rattle.items.specs.ItemList.{items, itemAt}
-use Rattle.items.specs.ItemList.{inRange}
+use Rattle.items.specs.ItemList.{items, itemAt, inRange}
 use Rattle.table.specs.Table.{goodTable, entry}
 use Rattle.modbus.specs.declared.Answered.{Answered}
 use Rattle.modbus.specs.Outcome.{unknownFunction}

@@ -3,8 +3,7 @@
 use mathlib.Core.Path.{_≡_, refl}
 use mathlib.Core.List.{map}
 use lib.Count.{ones}
-use Rattle.items.specs.ItemList.{found}
-use Rattle.items.specs.ItemList.{inRange}
+use Rattle.items.specs.ItemList.{found, inRange}
 use Rattle.table.specs.Table.{tableFault, startValues, stored}
 use Rattle.line.specs.Line.{keeps, heard, sent, bccFrom}
 use Rattle.text.specs.Reading.{reading}

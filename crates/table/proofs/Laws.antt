@@ -14,9 +14,7 @@ use lib.Seq.{getD-set-other}
 use lib.Signed.{leZ}
 use Rattle.sign.proofs.Laws.{contrary}
 use Rattle.sign.proofs.Choice.{both}
-use Rattle.items.specs.ItemList.{Item}
-use Rattle.items.specs.ItemList.{items, itemList, noItem, itemAt}
-use Rattle.items.specs.ItemList.{fromLowToHigh, inRange}
+use Rattle.items.specs.ItemList.{Item, items, itemList, noItem, itemAt, fromLowToHigh, inRange}
 use Rattle.table.specs.Table.{none, allInRange, tableFault, goodTable, startValues, entry, M1, AA, AB, A1, A2, alarm, answered, stored, noSuchItem, valueOutside, putNumber, putTable}
 use Rattle.table.specs.Promise.{Lent}
 

@@ -3,8 +3,7 @@
 use mathlib.Core.Path.{_≡_, refl, sym, ap, _∙_}
 use mathlib.Core.Bool.{Bool, true, false, cond}
 use Rattle.sign.proofs.Laws.{same}
-use Rattle.items.specs.ItemList.{itemAt}
-use Rattle.items.specs.ItemList.{inRange}
+use Rattle.items.specs.ItemList.{itemAt, inRange}
 use Rattle.block.specs.Block.{readOnly, outOfRange, forItem}
 use Rattle.block.specs.declared.Verdict.the-variants.{Store, Refuse}
 use Rattle.block.proofs.Cases.{refused, of-value}

@@ -9,8 +9,7 @@ use native.Mathlib.Omega.{arith}
 use lib.Dec.{leb}
 use lib.IntN.{ℤ, pos, negsuc}
 use Rattle.sign.proofs.Laws.{same}
-use Rattle.items.specs.ItemList.{Item, noItem}
-use Rattle.items.specs.ItemList.{inRange, fromLowToHigh}
+use Rattle.items.specs.ItemList.{Item, noItem, inRange, fromLowToHigh}
 use Rattle.items.proofs.Lists.{limit, line-past}
 use Rattle.items.proofs.in_range.Statement.{statement}
 use Rattle.items.proofs.in_range.Tie as tie

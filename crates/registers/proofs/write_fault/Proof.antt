@@ -3,8 +3,7 @@ use mathlib.Core.Path.{_≡_, sym, ap, ap₂, _∙_}
 use mathlib.Core.Bool.{Bool, cond}
 use Prim.Native.Nat.{ℕ}
 use Rattle.sign.proofs.Laws.{same}
-use Rattle.items.specs.ItemList.{itemAt}
-use Rattle.items.specs.ItemList.{inRange}
+use Rattle.items.specs.ItemList.{itemAt, inRange}
 use Rattle.table.specs.Table.{none}
 use Rattle.registers.specs.Register.{ofRegister}
 use Rattle.registers.specs.Faults.{wrongData, firstWord, placeOf, writable, writeFault}
