@@ -9,7 +9,7 @@ use borrow.Author.Tests.{not-false, leb-true, le-ltb}
 use lib.Dec.{eqb, leb, ltb}
 use lib.IntN.{ℤ}
 use lib.ListN.{length, getD, take, drop}
-use Rattle.sign.proofs.Choice.{both, chosen}
+use Rattle.numbers.proofs.Tests.{both, chosen}
 use Rattle.line.specs.Line.{isLineError}
 use Rattle.items.specs.ItemList.{items, itemAt, found, inRange}
 use Rattle.items.specs.declared.Found.{Found}

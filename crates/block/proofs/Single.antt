@@ -4,7 +4,7 @@ use mathlib.Core.Path.{_≡_}
 use mathlib.Core.Bool.{Bool}
 use mathlib.Core.List.{List}
 use Prim.Native.Nat.{ℕ}
-use Rattle.sign.proofs.Single.{single}
+use Rattle.numbers.proofs.Single.{single}
 use Rattle.block.specs.Block.{verdict}
 use Rattle.block.specs.declared.Verdict.{Verdict}
 

@@ -10,7 +10,7 @@ use lib.Bits.{bitXor, xor-lt, xor-self}
 use lib.Dec.{eqb, leb, lit<}
 use lib.ListN.{length, getD, drop, length-append, take-append-drop}
 use lib.Seq.{drop-cons, drop-length, take-at, getD-at, getD-append-add}
-use Rattle.sign.proofs.Choice.{both}
+use Rattle.numbers.proofs.Tests.{both}
 use Rattle.crc.specs.Crc.{Bytes, start, shifts, crcFrom, crc16Of, lowFirst, framed, bodyOf, crcIn, isRight}
 use Rattle.crc.proofs.Bytes.{low-first-bytes, rest-bytes, take-bytes}
 use Rattle.crc.proofs.Shifts.{shifts-small, shifts-zero}

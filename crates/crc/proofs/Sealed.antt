@@ -11,7 +11,7 @@ use borrow.Author.Tests.{le-leb, lt-leb, leb-true}
 use lib.Dec.{leb}
 use lib.ListN.{length, take, drop}
 use lib.Seq.{drop-append-add, drop-drop, length-front, length-sets, length-take-le, sets, sets-eq, take-append-seam, take-at}
-use Rattle.sign.proofs.Choice.{chosen}
+use Rattle.numbers.proofs.Tests.{chosen}
 use Rattle.crc.specs.Crc.{framed, isRight, sealed, sealedLength, Seals}
 use Rattle.crc.proofs.Framed.{framed-right, length-framed}
 

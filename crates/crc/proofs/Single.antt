@@ -4,7 +4,7 @@ use mathlib.Core.Path.{_≡_}
 use mathlib.Core.Bool.{Bool}
 use mathlib.Core.List.{List}
 use Prim.Native.Nat.{ℕ}
-use Rattle.sign.proofs.Single.{single}
+use Rattle.numbers.proofs.Single.{single}
 use Rattle.crc.specs.Crc.{crc16Of, isRight, Seals}
 
 pub crc16-single : (bytes : List ℕ) {r s : ℕ} → r ≡ crc16Of bytes → s ≡ crc16Of bytes → r ≡ s

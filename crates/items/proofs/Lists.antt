@@ -17,7 +17,7 @@ use lib.Signed.{mag}
 use mir.Syntax.{w32}
 use mir.Val.{toZ, ofZ}
 use Rattle.sign.proofs.Laws.{same}
-use Rattle.sign.proofs.Choice.{both}
+use Rattle.numbers.proofs.Tests.{both}
 use Rattle.items.specs.declared.Found.the-variants.{At}
 use Rattle.items.specs.ItemList.{Item, items, itemList, noItem, itemAt, firstFrom}
 

@@ -5,7 +5,7 @@ use mathlib.Core.Bool.{Bool}
 use mathlib.Core.List.{List}
 use Prim.Native.Nat.{ℕ}
 use lib.IntN.{ℤ}
-use Rattle.sign.proofs.Single.{single}
+use Rattle.numbers.proofs.Single.{single}
 use Rattle.items.specs.declared.Found.{Found}
 use Rattle.items.specs.ItemList.{itemAt, identifierOf, inRange, found, foundByRegister}
 

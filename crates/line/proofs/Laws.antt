@@ -12,8 +12,8 @@ use lib.Bits.{bitXor, xor-lt}
 use lib.Dec.{leb, lit<}
 use lib.ListN.{length, getD, drop}
 use lib.Seq.{drop-cons}
-use Rattle.sign.proofs.Laws.{contrary}
-use Rattle.sign.proofs.Choice.{chosen}
+use Rattle.numbers.proofs.Tests.{contrary}
+use Rattle.numbers.proofs.Tests.{chosen}
 use Rattle.line.specs.Line.{topBit, lowSeven, bccFrom, within, printable}
 
 pub within-in : (a b x : ℕ) → a ≤ x → x ≤ b → within a b x ≡ true

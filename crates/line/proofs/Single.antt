@@ -5,7 +5,7 @@ use mathlib.Core.Path.{_≡_}
 use mathlib.Core.Bool.{Bool}
 use mathlib.Core.List.{List}
 use Prim.Native.Nat.{ℕ}
-pub use Rattle.sign.proofs.Single.{single}
+pub use Rattle.numbers.proofs.Single.{single}
 use Rattle.line.specs.Line.{lowSeven, keeps, heard, sent, bcc}
 
 pub low-seven-single : (c : ℕ) {r s : ℕ} → r ≡ lowSeven c → s ≡ lowSeven c → r ≡ s

@@ -6,10 +6,10 @@ use Prim.Native.Nat.{ℕ, _≤_, _<_}
 use borrow.Author.Tests.{eq-eqb, ne-eqb, le-leb, lt-leb}
 use lib.IntN.{ℤ}
 use lib.ListN.{length}
-use Rattle.table.specs.Table.{none}
+use Rattle.numbers.specs.Numbers.{none, shortBuffer, leastBuffer}
 use Rattle.modbus.specs.declared.Answered.{Answered}
-use Rattle.modbus.specs.Outcome.{Outcome, shortBuffer, otherAddress, unknownFunction, addressOf, functionOf, silent, exceptionReply, exception, unlessFault}
-use Rattle.modbus.specs.Rules.{readRegisters, writeRegister, loopback, reading, writing, loopingBack, obeying, acted, leastBuffer, actedWithin}
+use Rattle.modbus.specs.Outcome.{Outcome, otherAddress, unknownFunction, addressOf, functionOf, silent, exceptionReply, exception, unlessFault}
+use Rattle.modbus.specs.Rules.{readRegisters, writeRegister, loopback, reading, writing, loopingBack, obeying, acted, actedWithin}
 use Rattle.modbus.specs.Promise.{Sends, Gives}
 
 -- ---- a fault, or none

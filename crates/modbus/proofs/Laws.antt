@@ -10,9 +10,10 @@ use borrow.Author.Tests.{eqb-true, eqb-false}
 use lib.Dec.{eqb}
 use lib.IntN.{ℤ}
 use lib.ListN.{length}
-use Rattle.sign.proofs.Choice.{chosen}
+use Rattle.numbers.specs.Numbers.{none}
+use Rattle.numbers.proofs.Tests.{chosen}
 use Rattle.items.specs.ItemList.{itemAt}
-use Rattle.table.specs.Table.{none, goodTable, entry}
+use Rattle.table.specs.Table.{goodTable, entry}
 use Rattle.table.proofs.Laws.{good-stored, stored-read-only}
 use Rattle.registers.specs.Faults.{firstWord, secondWord, readFault, writeFault, written, loopbackFault}
 use Rattle.registers.proofs.Faults.{Numbered, read-numbered, write-numbered, loopback-numbered, read-accepted, write-accepted, loopback-accepted}

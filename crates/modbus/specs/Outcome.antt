@@ -5,7 +5,7 @@ use mathlib.Core.List.{List, [], _∷_}
 use lib.Dec.{eqb, ltb}
 use lib.IntN.{ℤ}
 use lib.ListN.{getD}
-use Rattle.table.specs.Table.{none}
+use Rattle.numbers.specs.Numbers.{none}
 
 pub record Outcome : Type 0 where
   pub number : ℕ
@@ -13,9 +13,6 @@ pub record Outcome : Type 0 where
   pub table : List ℤ
 
 -- the numbers given back here, beside `none` and those of the three faults
-abbrev pub shortBuffer : ℕ
-shortBuffer = 3
-
 abbrev pub otherAddress : ℕ
 otherAddress = 23
 

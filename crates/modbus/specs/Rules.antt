@@ -6,9 +6,10 @@ use mathlib.Core.List.{List, _∷_}
 use lib.Dec.{eqb, leb}
 use lib.IntN.{ℤ}
 use lib.ListN.{length}
+use Rattle.numbers.specs.Numbers.{shortBuffer, leastBuffer}
 use Rattle.registers.specs.Register.{registersFrom}
 use Rattle.registers.specs.Faults.{firstWord, secondWord, readFault, writeFault, written, loopbackFault}
-use Rattle.modbus.specs.Outcome.{Outcome, shortBuffer, otherAddress, unknownFunction, addressOf, functionOf, silent, done, exception, unlessFault}
+use Rattle.modbus.specs.Outcome.{Outcome, otherAddress, unknownFunction, addressOf, functionOf, silent, done, exception, unlessFault}
 
 -- the functions
 abbrev pub readRegisters : ℕ
@@ -61,8 +62,5 @@ unfoldable pub acted : List ℤ → ℕ → List ℕ → Outcome
 acted table address body = cond (ours address body) (obeying table body) (silent otherAddress table)
 
 -- every reply, with the bytes that a line adds, has room in a buffer of 256 bytes; a shorter buffer is refused before all else
-abbrev pub leastBuffer : ℕ
-leastBuffer = 256
-
 unfoldable pub actedWithin : List ℤ → ℕ → ℕ → List ℕ → Outcome
 actedWithin table room address body = cond (leb leastBuffer room) (acted table address body) (silent shortBuffer table)

@@ -5,11 +5,11 @@ ghost use Prim.Native.Nat.{_+_, _*_, _≤_, _<_};
 ghost use lib.IntN.{ℤ};
 ghost use lib.ListN.{length};
 ghost use lib.Seq.{sets};
-ghost use Rattle.table.specs.Table.{none};
+ghost use Rattle.numbers.specs.Numbers.{none, leastBuffer};
 ghost use Rattle.registers.specs.Register.{registersFrom};
 ghost use Rattle.registers.specs.Faults.{readFault};
 ghost use Rattle.modbus.specs.Outcome.{topBitSet, exceptionReply};
-ghost use Rattle.modbus.specs.Rules.{readReply, reading, writing, loopingBack, obeying, leastBuffer, actedWithin};
+ghost use Rattle.modbus.specs.Rules.{readReply, reading, writing, loopingBack, obeying, actedWithin};
 ghost use Rattle.modbus.specs.Promise.{Sends, Gives};
 
 // What a call hands back: the number, 0 for none, and the length of the reply.

@@ -9,14 +9,15 @@ use borrow.Author.Tests.{eqb-true, eqb-false, le-leb}
 use lib.Dec.{eqb, leb}
 use lib.IntN.{ℤ}
 use lib.ListN.{length}
-use Rattle.sign.proofs.Laws.{contrary}
-use Rattle.sign.proofs.Choice.{chosen}
+use Rattle.numbers.specs.Numbers.{none, unless, shortBuffer, leastBuffer, badSetting}
+use Rattle.numbers.proofs.Tests.{contrary}
+use Rattle.numbers.proofs.Tests.{chosen}
 use Rattle.items.specs.ItemList.{items, itemList}
-use Rattle.table.specs.Table.{none, wrongLength, allInRange, tableFault}
+use Rattle.table.specs.Table.{wrongLength, allInRange, tableFault}
 use Rattle.rkc.specs.declared.Link.{Link}
 use Rattle.rkc.specs.State.{inPhase, inLimits}
 use Rattle.rkc.specs.Outcome.{Step, Outcome, received}
-use Rattle.rkc.specs.Outcome.{unless, leastBuffer, shortBuffer, badSetting, badState, callFault, goodSettings, byteFault, idleFault, idled}
+use Rattle.rkc.specs.Outcome.{badState, callFault, goodSettings, byteFault, idleFault, idled}
 use Rattle.rkc.proofs.Cases.{byte-none, call-none}
 use Rattle.state.specs.State.{stateBytes, fields, unknownPhase, unpacked}
 use Rattle.panel.specs.Calls.{isCallFault}

@@ -5,9 +5,9 @@ use mathlib.Core.List.{List}
 use Prim.Native.Nat.{ℕ}
 use lib.IntN.{ℤ}
 use lib.ListN.{length}
-use Rattle.sign.proofs.Single.{single}
+use Rattle.numbers.specs.Promise.{Lent}
+use Rattle.numbers.proofs.Single.{single}
 use Rattle.table.specs.Table.{startNumber, startTable, putNumber, putTable}
-use Rattle.table.specs.Promise.{Lent}
 use Rattle.table.proofs.Single.{lent-single}
 use Rattle.text.specs.Numbers.{width}
 use Rattle.text.specs.Reading.{reading}

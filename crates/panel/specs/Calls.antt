@@ -6,13 +6,14 @@ use lib.Dec.{leb}
 use lib.IntN.{ℤ}
 use lib.ListN.{length}
 use lib.Seq.{sets}
-use Rattle.table.specs.Table.{none, wrongLength}
+use Rattle.numbers.specs.Numbers.{none, shortBuffer}
+use Rattle.table.specs.Table.{wrongLength}
 use Rattle.text.specs.Numbers.{width}
 use Rattle.text.specs.Writing.{written}
 use Rattle.phases.specs.Phases.{rest}
 use Rattle.rkc.specs.declared.Link.{Link}
 use Rattle.rkc.specs.State.{inPhase}
-use Rattle.rkc.specs.Outcome.{shortBuffer, badState}
+use Rattle.rkc.specs.Outcome.{badState}
 use Rattle.state.specs.State.{isState, packed, packedInto}
 
 -- the number and the length of the reply in one

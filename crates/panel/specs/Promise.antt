@@ -6,11 +6,11 @@ use mathlib.Core.List.{List}
 use lib.IntN.{ℤ}
 use lib.ListN.{length}
 use lib.Seq.{sets}
+use Rattle.numbers.specs.Numbers.{none}
 use Rattle.rkc.specs.declared.Stepped.{Stepped}
 use Rattle.rkc.specs.Outcome.{Step, Outcome}
 use Rattle.text.specs.declared.Reading.{Reading}
 use Rattle.text.specs.Numbers.{numberOf, valueOf}
-use Rattle.table.specs.Table.{none}
 use Rattle.crc.specs.Damage.{Spoils, flip}
 use Rattle.rtu.specs.Frame.{wrongCrc, callFault, actedOn}
 use Rattle.state.specs.State.{stateBytes}

@@ -6,7 +6,7 @@ use Prim.Native.Nat.{ℕ, _<_, _/_, _%_}
 use native.Mathlib.Omega.{arith}
 use borrow.Author.Tests.{eqb-true, eqb-false, ltb-true}
 use lib.Dec.{T, leb, ltb, eqb, lit≤}
-use Rattle.sign.proofs.Choice.{chosen}
+use Rattle.numbers.proofs.Tests.{chosen}
 use Rattle.line.specs.Line.{STX, ETX, EOT, ENQ, ACK, NAK, topBit, printable, isLineError}
 use Rattle.line.proofs.Laws.{printable-small}
 use Rattle.phases.specs.Phases.{rest, firstDigit, secondDigit, addressed, oneCharacter, twoCharacters, waiting, text, bccDue, answered}

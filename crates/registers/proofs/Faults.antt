@@ -8,9 +8,9 @@ use native.Mathlib.Omega.{arith}
 use borrow.Author.Tests.{eqb-true, eq-eqb, ne-eqb, leb-true, le-leb, lt-leb}
 use lib.Dec.{eqb, leb}
 use lib.ListN.{length}
-use Rattle.sign.proofs.Choice.{both}
+use Rattle.numbers.specs.Numbers.{none}
+use Rattle.numbers.proofs.Tests.{both}
 use Rattle.items.specs.ItemList.{inRange}
-use Rattle.table.specs.Table.{none}
 use Rattle.registers.specs.Register.{ofRegister}
 use Rattle.registers.specs.Faults.{wrongRegister, wrongData, bodyLength, mostRegisters, firstWord, secondWord, must, inMap, readFault, placeOf, writable, writeFault, loopbackFault}
 

@@ -4,7 +4,7 @@ use mathlib.Core.Path.{_≡_}
 use mathlib.Core.List.{List}
 use Prim.Native.Nat.{ℕ}
 use lib.IntN.{ℤ}
-use Rattle.sign.proofs.Single.{single}
+use Rattle.numbers.proofs.Single.{single}
 use Rattle.registers.specs.Register.{registerAt}
 use Rattle.registers.specs.Faults.{firstWord, secondWord, readFault, writeFault, written, loopbackFault}
 

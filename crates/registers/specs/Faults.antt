@@ -5,10 +5,11 @@ use mathlib.Core.List.{List}
 use lib.Dec.{eqb, leb}
 use lib.IntN.{ℤ}
 use lib.ListN.{getD, length}
+use Rattle.numbers.specs.Numbers.{none}
 use Rattle.items.specs.declared.Found.{Found}
 use Rattle.items.specs.declared.Found.the-variants.{At, Nothing}
 use Rattle.items.specs.ItemList.{items, itemAt, foundByRegister, inRange}
-use Rattle.table.specs.Table.{none, stored}
+use Rattle.table.specs.Table.{stored}
 use Rattle.registers.specs.Register.{ofRegister, word}
 
 -- the numbers given back here, beside `none`

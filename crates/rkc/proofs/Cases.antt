@@ -8,9 +8,10 @@ use native.Mathlib.Omega.{arith}
 use borrow.Author.Tests.{eq-eqb, ne-eqb, eqb-true, eqb-false, leb-true, le-leb, lt-leb}
 use lib.Dec.{eqb, leb}
 use lib.IntN.{ℤ}
-use Rattle.sign.proofs.Choice.{chosen}
+use Rattle.numbers.specs.Numbers.{none, unless, firstMet, shortBuffer, leastBuffer, badSetting}
+use Rattle.numbers.proofs.Tests.{chosen}
 use Rattle.items.specs.ItemList.{itemAt}
-use Rattle.table.specs.Table.{none, tableFault, answered}
+use Rattle.table.specs.Table.{tableFault, answered}
 use Rattle.line.specs.Line.{sent, heard}
 use Rattle.phases.specs.Phases.{waiting}
 use Rattle.phases.specs.declared.Act.{Act}
@@ -20,7 +21,7 @@ use Rattle.rkc.specs.declared.Link.{Link}
 use Rattle.rkc.specs.declared.Stepped.{Stepped}
 use Rattle.rkc.specs.State.{waitingOn, asBlock, used, inLimits}
 use Rattle.rkc.specs.Outcome.{Step, Outcome, silent, quit, noRoom, dataReply, itemSent, keeping, performed, asked, handedBack, received}
-use Rattle.rkc.specs.Outcome.{firstMet, unless, leastBuffer, shortBuffer, badSetting, badState, callFault, goodSettings, byteFault}
+use Rattle.rkc.specs.Outcome.{badState, callFault, goodSettings, byteFault}
 use Rattle.rkc.specs.Outcome.{elapsed, patience, timedOut, idleFault, passed, idled}
 use Rattle.rkc.specs.Promise.{Steps, Leads}
 use Rattle.rkc.proofs.Used.{used-phase, used-waiting, asked-used, performed-used}

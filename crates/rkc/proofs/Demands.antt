@@ -9,10 +9,11 @@ use borrow.Author.Tests.{eq-eqb, eqb-true, eqb-false}
 use lib.Dec.{eqb, leb}
 use lib.IntN.{ℤ, pos}
 use lib.Signed.{leZ}
-use Rattle.sign.proofs.Choice.{both, chosen}
+use Rattle.numbers.specs.Numbers.{none, leastBuffer}
+use Rattle.numbers.proofs.Tests.{both, chosen}
 use Rattle.items.specs.ItemList.{Item, items, itemAt, inRange}
 use Rattle.table.specs.Table as table
-use Rattle.table.specs.Table.{none, tableFault, goodTable, entry}
+use Rattle.table.specs.Table.{tableFault, goodTable, entry}
 use Rattle.items.proofs.Lists.{passes, passes-at}
 use Rattle.table.proofs.Laws.{good-entry, good-stored, stored-read-only, answered-AA, answered-AB}
 use Rattle.line.specs.Line.{sent, heard}
@@ -30,7 +31,7 @@ use Rattle.block.proofs.Laws.{few-decimals, verdict-stores}
 use Rattle.rkc.specs.declared.Link.{Link}
 use Rattle.rkc.specs.State.{used, inLimits}
 use Rattle.rkc.specs.Outcome.{Step, Outcome, quit, dataReply, itemSent, judged, keeping, performed, asked, handedBack, received}
-use Rattle.rkc.specs.Outcome.{silent, leastBuffer, goodSettings, byteFault, elapsed, patience, timedOut, idleFault, idled}
+use Rattle.rkc.specs.Outcome.{silent, goodSettings, byteFault, elapsed, patience, timedOut, idleFault, idled}
 use Rattle.rkc.specs.Demands.{allKeep, OfByte, OfIdle, stateText, OfAlarms}
 use Rattle.rkc.proofs.Cases.{call-state, call-none, byte-call, byte-none, received-fault, received-fine, idled-fault, idled-fine}
 use Rattle.rkc.proofs.Limits.{used-small, asked-limited, performed-limits, used-in-limits}

@@ -9,12 +9,12 @@ use borrow.Author.Tests.{eq-eqb, ne-eqb, ltb-true, lt-ltb, leb-true, le-leb}
 use lib.Dec.{eqb, ltb, leb, lit≤, lit<}
 use lib.IntN.{ℤ}
 use lib.ListN.{getD, set}
-use Rattle.sign.proofs.Choice.{both, chosen}
+use Rattle.numbers.specs.Numbers.{none}
+use Rattle.numbers.proofs.Tests.{both, chosen}
 use Rattle.items.specs.declared.Found.{Found}
 use Rattle.items.specs.declared.Found.the-variants.{At, Nothing}
 use Rattle.items.specs.ItemList.{items, itemAt, found}
 use Rattle.table.specs.Table as table
-use Rattle.table.specs.Table.{none}
 use Rattle.items.proofs.Lookup.{found-place}
 use Rattle.line.specs.Line.{ETX, topBit, lowSeven, within}
 use Rattle.line.proofs.Laws.{within-in, within-true, low-seven-small, taken-small}

@@ -9,9 +9,10 @@ use native.Mathlib.Omega.{arith}
 use lib.Dec.{eqb, leb}
 use lib.IntN.{ℤ}
 use lib.ListN.{length, length-append, length-map}
-use Rattle.sign.proofs.Choice.{chosen}
+use Rattle.numbers.specs.Numbers.{none}
+use Rattle.numbers.proofs.Tests.{chosen}
 use Rattle.items.specs.ItemList.{itemAt, found}
-use Rattle.table.specs.Table.{none, answered}
+use Rattle.table.specs.Table.{answered}
 use Rattle.items.specs.declared.Found.{Found}
 use Rattle.items.specs.declared.Found.the-variants.{At, Nothing}
 use Rattle.line.specs.Line.{ETX, EOT, ACK, NAK, sent, heard, bcc}

@@ -5,8 +5,9 @@ use mathlib.Core.List.{List, [], _∷_, map}
 use Prim.Native.Nat.{ℕ, _+_}
 use lib.IntN.{ℤ}
 use lib.Signed.{leZ}
+use Rattle.numbers.specs.Numbers.{none}
 use Rattle.items.specs.ItemList.{itemAt}
-use Rattle.table.specs.Table.{none, goodTable, entry, M1, AA, AB, A1, A2}
+use Rattle.table.specs.Table.{goodTable, entry, M1, AA, AB, A1, A2}
 use Rattle.line.specs.Line.{keeps, sent}
 use Rattle.rkc.specs.declared.Link.{Link}
 use Rattle.rkc.specs.State.{waitingOn, inLimits}

@@ -5,10 +5,11 @@ use Prim.Native.Nat.{ℕ, _+_, _-_, _%_, _^_}
 use lib.Dec.{leb, eqb}
 use lib.IntN.{ℤ}
 use lib.ListN.{getD}
+use Rattle.numbers.specs.Numbers.{none, unless, firstMet, shortBuffer, leastBuffer, badSetting}
 use Rattle.items.specs.declared.Found.{Found}
 use Rattle.items.specs.declared.Found.the-variants.{At, Nothing}
 use Rattle.items.specs.ItemList.{itemAt, found}
-use Rattle.table.specs.Table.{none, tableFault, answered, stored}
+use Rattle.table.specs.Table.{tableFault, answered, stored}
 use Rattle.line.specs.Line.{STX, ETX, EOT, ACK, NAK, sent, heard, bcc}
 use Rattle.text.specs.Numbers.{width}
 use Rattle.text.specs.declared.Written.{Written}
@@ -25,12 +26,6 @@ use Rattle.rkc.specs.declared.Link.{Link}
 use Rattle.rkc.specs.State.{inPhase, holdingOne, holdingTwo, waitingOn, used, inLimits, withMore, withEnd}
 
 -- numbers given back
-abbrev pub shortBuffer : ℕ
-shortBuffer = 3
-
-abbrev pub badSetting : ℕ
-badSetting = 4
-
 abbrev pub badState : ℕ
 badState = 5
 
@@ -117,19 +112,6 @@ performed l t structure time (Judge c) = judged structure t (verdict (l .mark) (
 -- what a byte, as it was heard, asks for in a state
 abbrev pub asked : Link → ℕ → ℕ → Act
 asked l address c = decided (l .phase) (getD (l .kept) 0 0) (getD (l .kept) 1 0) (l .item) address c
-
--- the first number of several that is met
-abbrev pub firstMet : List ℕ → ℕ
-firstMet [] = none
-firstMet (n ∷ ns) = cond (eqb n none) (firstMet ns) n
-
--- a number where a test fails
-abbrev pub unless : Bool → ℕ → ℕ
-unless test number = cond test none number
-
--- the least reply buffer
-abbrev pub leastBuffer : ℕ
-leastBuffer = 256
 
 -- the faults that every call looks at: buffer, settings, state
 unfoldable pub callFault : Link → ℕ → Bool → ℕ

@@ -9,8 +9,9 @@ use native.Mathlib.Omega.{arith}
 use lib.IntN.{ℤ}
 use lib.ListN.{length}
 use lib.Seq.{sets}
+use Rattle.numbers.specs.Numbers.{none}
 use Rattle.items.specs.ItemList.{itemAt}
-use Rattle.table.specs.Table.{none, goodTable, entry}
+use Rattle.table.specs.Table.{goodTable, entry}
 use Rattle.table.proofs.Laws.{good-entry}
 use Rattle.crc.specs.Crc.{bodyOf}
 use Rattle.crc.specs.Damage.{Spoils, flip}

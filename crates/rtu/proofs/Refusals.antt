@@ -9,14 +9,13 @@ use borrow.Author.Tests.{eqb-true, eqb-false, eq-eqb, ne-eqb, leb-true, le-leb, 
 use lib.Dec.{eqb, leb}
 use lib.IntN.{ℤ}
 use lib.ListN.{length}
-use Rattle.sign.proofs.Choice.{both}
-use Rattle.table.specs.Table.{none, tableFault}
+use Rattle.numbers.specs.Numbers.{none, shortBuffer, leastBuffer, badSetting, lastAddress}
+use Rattle.numbers.proofs.Tests.{both}
+use Rattle.table.specs.Table.{tableFault}
 use Rattle.crc.specs.Crc.{isRight}
 use Rattle.registers.specs.Faults.{must}
 use Rattle.registers.proofs.Faults.{must-none}
-use Rattle.modbus.specs.Outcome.{shortBuffer}
-use Rattle.modbus.specs.Rules.{leastBuffer}
-use Rattle.rtu.specs.Frame.{badSetting, wrongFrameLength, wrongCrc, firstAddress, lastAddress, shortest, longest, orElse, callFault, frameFault, refusal}
+use Rattle.rtu.specs.Frame.{wrongFrameLength, wrongCrc, firstAddress, shortest, longest, orElse, callFault, frameFault, refusal}
 
 -- ---- one fault, or else the next
 

@@ -9,8 +9,8 @@ use lib.Dec.{eqb}
 use lib.IntN.{ℤ}
 use lib.ListN.{length}
 use lib.Seq.{sets, length-sets}
-use Rattle.sign.proofs.Choice.{chosen}
-use Rattle.table.specs.Table.{none}
+use Rattle.numbers.specs.Numbers.{none}
+use Rattle.numbers.proofs.Tests.{chosen}
 use Rattle.crc.specs.Crc.{framed, bodyOf, sealed, sealedLength, Seals}
 use Rattle.crc.proofs.Framed.{length-framed}
 use Rattle.crc.proofs.Sealed.{with-room, sealed-body}

@@ -5,16 +5,14 @@ use mathlib.Core.List.{List, [], _∷_}
 use lib.Dec.{eqb, leb}
 use lib.IntN.{ℤ}
 use lib.ListN.{length}
-use Rattle.table.specs.Table.{none, tableFault}
+use Rattle.numbers.specs.Numbers.{none, shortBuffer, leastBuffer, badSetting, lastAddress}
+use Rattle.table.specs.Table.{tableFault}
 use Rattle.crc.specs.Crc.{framed, bodyOf, isRight}
 use Rattle.registers.specs.Faults.{must}
-use Rattle.modbus.specs.Outcome.{Outcome, shortBuffer, silent}
-use Rattle.modbus.specs.Rules.{leastBuffer, acted}
+use Rattle.modbus.specs.Outcome.{Outcome, silent}
+use Rattle.modbus.specs.Rules.{acted}
 
 -- the numbers given back here, beside those of the table and of the message
-abbrev pub badSetting : ℕ
-badSetting = 4
-
 abbrev pub wrongFrameLength : ℕ
 wrongFrameLength = 21
 
@@ -24,9 +22,6 @@ wrongCrc = 22
 -- the addresses that a device can have
 abbrev pub firstAddress : ℕ
 firstAddress = 1
-
-abbrev pub lastAddress : ℕ
-lastAddress = 99
 
 -- the lengths that a frame can have
 abbrev pub shortest : ℕ

@@ -4,7 +4,7 @@ use mathlib.Core.Path.{_≡_}
 use mathlib.Core.List.{List}
 use lib.IntN.{ℤ}
 use lib.ListN.{length}
-use Rattle.table.specs.Table.{none}
+use Rattle.numbers.specs.Numbers.{none}
 use Rattle.crc.specs.Damage.{Spoils, flip}
 use Rattle.modbus.specs.declared.Answered.{Answered}
 use Rattle.modbus.specs.Promise.{Gives}

@@ -1,7 +1,7 @@
 // One Modbus RTU frame: the message rules between a test of its CRC and a reply that is sealed with one.
 ghost use mathlib.Core.Path.{_≡_};
 ghost use lib.ListN.{length};
-ghost use Rattle.table.specs.Table.{none};
+ghost use Rattle.numbers.specs.Numbers.{none};
 ghost use Rattle.crc.specs.Crc.{bodyOf};
 ghost use Rattle.modbus.specs.Rules.{acted};
 ghost use Rattle.modbus.specs.Promise.{Gives};

@@ -1,23 +1,19 @@
 -- What the crates above use of signed numbers: what the machine reads back, and what a comparison with zero tells of the sign
 -- and the size.
 -- Assumes nothing.
-use mathlib.Core.Path.{_≡_, refl, ap, ap₂, subst, _∙_}
+use mathlib.Core.Path.{_≡_, refl, ap, ap₂, _∙_}
 use mathlib.Core.Bool.{Bool, true, false}
 use Prim.Native.Nat.{ℕ, suc, _<_, _^_, zero-le}
 use native.Mathlib.Nat.{zero-add, not-suc-le-zero}
 use native.Mathlib.Omega.{arith}
 use borrow.Author.Tests.{ltb-true, lt-ltb, le-ltb}
-use lib.Dec.{T}
 use lib.IntN.{ℤ, pos, negsuc, natAbs, _-ℤ_}
 use lib.Signed.{ltZ, mag, natAbs-le}
 use mir.Syntax.{w32, w64}
 use mir.Val.{SFits, toZ, ofZ}
 use mir.Facts.{toZ-ofZ, sfits-widen}
+use Rattle.numbers.proofs.Tests.{contrary}
 use Rattle.sign.specs.Sign.{signed, made}
-
--- a test cannot have both answers
-pub contrary : {X : Type 0} → true ≡ false → X
-contrary e = absurd (subst T e tt)
 
 -- what the machine reads back of a number that fits an i32 is that number
 pub same : (v : ℤ) → mag v < 2 ^ 31 → toZ w32 (ofZ w32 v) ≡ v

@@ -1,21 +1,15 @@
--- Two answers that meet one promise are the same answer. Each public function of this crate promises an equation, so one law
--- serves them all, and the crates above for promises of that kind.
+-- Each public function of this crate promises one outcome.
 -- Assumes nothing.
-use mathlib.Core.Path.{_≡_, sym, _∙_}
-use mathlib.Core.Bool.{Bool}
-use Prim.Native.Nat.{ℕ}
-use lib.IntN.{ℤ, natAbs}
-use lib.Signed.{ltZ}
-use Rattle.sign.specs.Sign.{made}
+use mathlib.Core.Path.{refl}
+use Rattle.numbers.specs.Promise.{OneOutcome}
+use Rattle.numbers.proofs.Single.{single, _&_}
+use Rattle.sign.proofs as sign
 
-pub single : {A : Type 0} {x r s : A} → r ≡ x → s ≡ x → r ≡ s
-single p q = p ∙ sym q
+pub less : OneOutcome sign.less.ended sign.less.Reads.Asked sign.less.Reads.Post
+less = record { asksNothing = λ κs a. tt; single = λ κs a o u p q. single p q & refl }
 
-pub less-single : (a b : ℤ) {r s : Bool} → r ≡ ltZ a b → s ≡ ltZ a b → r ≡ s
-less-single a b = single
+pub size : OneOutcome sign.size.ended sign.size.Reads.Asked sign.size.Reads.Post
+size = record { asksNothing = λ κs a. tt; single = λ κs a o u p q. single p q & refl }
 
-pub size-single : (v : ℤ) {r s : ℕ} → r ≡ natAbs v → s ≡ natAbs v → r ≡ s
-size-single v = single
-
-pub make-single : (below : Bool) (n : ℕ) {r s : ℤ} → r ≡ made below n → s ≡ made below n → r ≡ s
-make-single below n = single
+pub make : OneOutcome sign.make.ended sign.make.Reads.Asked sign.make.Reads.Post
+make = record { asksNothing = λ κs a. tt; single = λ κs a o u p q. single p q & refl }

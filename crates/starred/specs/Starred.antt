@@ -7,9 +7,10 @@ use Prim.Native.String.{String}
 use lib.Dec.{eqb}
 use lib.IntN.{ℤ, pos}
 use lib.ListN.{getD}
+use Rattle.numbers.specs.Numbers.{none, leastBuffer}
 use Rattle.sign.specs.Sign.{minus}
 use Rattle.items.specs.ItemList.{found}
-use Rattle.table.specs.Table.{none, startValues, entry}
+use Rattle.table.specs.Table.{startValues, entry}
 use Rattle.line.specs.Line.{STX, ETX, EOT, ACK, sent, bcc}
 use Rattle.text.specs.Numbers.{width, doesNotFit, noNumber}
 use Rattle.text.specs.Writing.{written}
@@ -17,7 +18,7 @@ use Rattle.text.specs.declared.Written.{Written}
 use Rattle.phases.specs.Phases.{rest}
 use Rattle.block.specs.Block.{outOfRange}
 use Rattle.rkc.specs.State.{inPhase}
-use Rattle.rkc.specs.Outcome.{Outcome, leastBuffer, silent, received}
+use Rattle.rkc.specs.Outcome.{Outcome, silent, received}
 use Rattle.crc.specs.Crc.{isRight}
 use Rattle.registers.specs.Faults.{placeFound}
 use Rattle.modbus.specs.Outcome as modbus

@@ -10,11 +10,12 @@ use lib.Dec.{eqb, leb}
 use lib.IntN.{ℤ}
 use lib.ListN.{length, getD, length-set}
 use lib.Seq.{length-slice}
-use Rattle.sign.proofs.Choice.{chosen}
+use Rattle.numbers.specs.Numbers.{none}
+use Rattle.numbers.proofs.Tests.{chosen}
 use Rattle.items.specs.declared.Found.{Found}
 use Rattle.items.specs.declared.Found.the-variants.{At, Nothing}
 use Rattle.items.specs.ItemList.{itemAt, found}
-use Rattle.table.specs.Table.{none, answered}
+use Rattle.table.specs.Table.{answered}
 use Rattle.text.specs.Numbers.{width}
 use Rattle.text.specs.Writing.{written}
 use Rattle.phases.specs.Phases.{oneCharacter, twoCharacters, waiting}

@@ -3,7 +3,7 @@
 use mathlib.Core.Path.{_≡_}
 use mathlib.Core.List.{List}
 use Prim.Native.Nat.{ℕ}
-use Rattle.sign.proofs.Single.{single}
+use Rattle.numbers.proofs.Single.{single}
 use Rattle.rkc.specs.declared.Link.{Link}
 use Rattle.state.specs.State.{unpacked, packedInto}
 

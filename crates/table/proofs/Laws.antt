@@ -12,11 +12,12 @@ use lib.IntN.{ℤ, pos, negsuc}
 use lib.ListN.{getD, set, length, length-set}
 use lib.Seq.{getD-set-other}
 use lib.Signed.{leZ}
-use Rattle.sign.proofs.Laws.{contrary}
-use Rattle.sign.proofs.Choice.{both}
+use Rattle.numbers.specs.Numbers.{none}
+use Rattle.numbers.specs.Promise.{Lent}
+use Rattle.numbers.proofs.Tests.{contrary}
+use Rattle.numbers.proofs.Tests.{both}
 use Rattle.items.specs.ItemList.{Item, items, itemList, noItem, itemAt, fromLowToHigh, inRange}
-use Rattle.table.specs.Table.{none, allInRange, tableFault, goodTable, startValues, entry, M1, AA, AB, A1, A2, alarm, answered, stored, noSuchItem, valueOutside, putNumber, putTable}
-use Rattle.table.specs.Promise.{Lent}
+use Rattle.table.specs.Table.{allInRange, tableFault, goodTable, startValues, entry, M1, AA, AB, A1, A2, alarm, answered, stored, noSuchItem, valueOutside, putNumber, putTable}
 
 -- ---- a good table
 

@@ -4,9 +4,9 @@ use mathlib.Core.Path.{_≡_}
 use mathlib.Core.List.{List}
 use Prim.Native.Nat.{ℕ}
 use lib.IntN.{ℤ}
-use Rattle.sign.proofs.Single.{single}
+use Rattle.numbers.specs.Promise.{Lent}
+use Rattle.numbers.proofs.Single.{single}
 use Rattle.table.specs.Table.{tableFault, startNumber, startTable, answered, stored, putNumber, putTable}
-use Rattle.table.specs.Promise.{Lent}
 
 pub lent-single : {n : ℕ} {t : List ℤ} {r s : ℕ} {u w : List ℤ} → Lent n t r u → Lent n t s w → (r ≡ s) × (u ≡ w)
 lent-single p q = (single (p .given) (q .given), single (p .left) (q .left))

@@ -6,12 +6,10 @@ use lib.Dec.{eqb, leb}
 use lib.IntN.{ℤ, pos}
 use lib.ListN.{getD, set, length}
 use lib.Signed.{leZ}
+use Rattle.numbers.specs.Numbers.{none}
 use Rattle.items.specs.ItemList.{Item, items, itemList, fromLowToHigh, inRange}
 
--- the numbers given back here; 0 is none
-abbrev pub none : ℕ
-none = 0
-
+-- the numbers given back here
 abbrev pub wrongLength : ℕ
 wrongLength = 1
 

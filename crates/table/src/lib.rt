@@ -1,8 +1,8 @@
 // The lent table, which has one entry for each item: its check, its start values, what either line answers for an item, storing a
 // value, and the firmware's put.
 ghost use mathlib.Core.Path.{_≡_};
+ghost use Rattle.numbers.specs.Promise.{Lent};
 ghost use Rattle.table.specs.Table.{tableFault, startNumber, startTable, entry, alarm, answered, stored, putNumber, putTable};
-ghost use Rattle.table.specs.Promise.{Lent};
 
 // The places of the alarm states, AA and AB, and of the items that they are worked out from.
 const M1: usize = 0;

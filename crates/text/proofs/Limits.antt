@@ -11,7 +11,7 @@ use lib.Dec.{leb, ltb, leb·suc-suc}
 use lib.IntN.{ℤ, pos, negsuc}
 use lib.Signed.{leZ}
 use Rattle.sign.specs.Sign.{minus}
-use Rattle.sign.proofs.Laws.{contrary}
+use Rattle.numbers.proofs.Tests.{contrary}
 use Rattle.text.specs.Writing.{room, fits}
 
 abbrev pub between : ℤ → ℤ → ℤ → Bool

@@ -10,7 +10,7 @@ use borrow.Author.Tests.{le-leb, leb-true}
 use lib.Arith.{mod-mul}
 use lib.Dec.{leb}
 use lib.ListN.{length, length-append}
-use Rattle.sign.proofs.Choice.{both}
+use Rattle.numbers.proofs.Tests.{both}
 use Rattle.text.specs.Characters.{zeroDigit, nineDigit, isDigit}
 use Rattle.text.specs.Reading.{allDigits, numberFrom}
 use Rattle.text.specs.Writing.{digits}

@@ -12,11 +12,12 @@ use lib.IntN.{ℤ, pos, natAbs}
 use lib.ListN.{length, getD, take, drop, length-take, length-drop, take-append-drop, drop-of-length-le}
 use lib.Seq.{take-at, take-length}
 use lib.Signed.{ltZ}
+use Rattle.numbers.specs.Numbers.{none}
 use Rattle.sign.specs.Sign.{signed}
 use Rattle.sign.proofs.Laws.{by-sign}
-use Rattle.sign.proofs.Choice.{both}
+use Rattle.numbers.proofs.Tests.{both}
 use Rattle.text.specs.Characters.{minusSign, point, isDigit}
-use Rattle.text.specs.Numbers.{mostDecimals, none}
+use Rattle.text.specs.Numbers.{mostDecimals}
 use Rattle.text.specs.Reading.{allDigits, numberFrom, pointAt, ofParts, ofUnsigned, ofText, reading}
 use Rattle.text.specs.Writing.{digits, pointed, room, textOf, text, fits, written}
 use Rattle.text.specs.declared.Reading.the-variants.{Value}

@@ -4,7 +4,7 @@ use mathlib.Core.Path.{_≡_}
 use mathlib.Core.List.{List}
 use Prim.Native.Nat.{ℕ}
 use lib.IntN.{ℤ}
-use Rattle.sign.proofs.Single.{single}
+use Rattle.numbers.proofs.Single.{single}
 use Rattle.text.specs.Numbers.{width, numberOf, valueOf}
 use Rattle.text.specs.Reading.{reading}
 use Rattle.text.specs.Writing.{written}

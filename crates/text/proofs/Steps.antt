@@ -13,7 +13,7 @@ use lib.Pow.{pow-add}
 use lib.Seq.{drop-cons, take-all}
 use mir.Val.{boolByte}
 use Rattle.sign.specs.Sign.{signed}
-use Rattle.sign.proofs.Laws.{contrary}
+use Rattle.numbers.proofs.Tests.{contrary}
 use Rattle.text.specs.Characters.{minusSign, point, zeroDigit, isDigit}
 use Rattle.text.specs.Numbers.{mostDecimals}
 use Rattle.text.specs.Reading.{allDigits, numberFrom, digitsFrom, pointAt, ofParts, ofUnsigned, ofText}

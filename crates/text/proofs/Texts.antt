@@ -10,9 +10,10 @@ use lib.Dec.{ltb}
 use lib.IntN.{ℤ, pos, natAbs}
 use lib.ListN.{length, take, drop, length-append, length-take, length-drop, length-replicate}
 use lib.Signed.{ltZ}
-use Rattle.sign.proofs.Choice.{chosen}
+use Rattle.numbers.specs.Numbers.{none}
+use Rattle.numbers.proofs.Tests.{chosen}
 use Rattle.text.specs.Characters.{point}
-use Rattle.text.specs.Numbers.{mostDecimals, none, doesNotFit, tooManyDecimals}
+use Rattle.text.specs.Numbers.{mostDecimals, doesNotFit, tooManyDecimals}
 use Rattle.text.specs.Writing.{digits, pointed, signText, points, room, fits, textOf, text, accepted, refusal, written}
 use Rattle.text.specs.declared.Written.{Written}
 use Rattle.text.proofs.Numerals.{digits-length}

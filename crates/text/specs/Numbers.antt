@@ -1,6 +1,7 @@
 -- The numbers that a reading or a writing gives back, and the most decimals that either takes.
 use Prim.Native.Nat.{ℕ}
 use lib.IntN.{ℤ, pos}
+use Rattle.numbers.specs.Numbers.{none}
 use Rattle.text.specs.declared.Reading.{Reading}
 use Rattle.text.specs.declared.Reading.the-variants.{Value, Decimals, TooLong, NoNumber}
 
@@ -10,9 +11,6 @@ width = 6
 
 abbrev pub mostDecimals : ℕ
 mostDecimals = 3
-
-abbrev pub none : ℕ
-none = 0
 
 abbrev pub doesNotFit : ℕ
 doesNotFit = 8

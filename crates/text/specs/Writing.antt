@@ -7,8 +7,9 @@ use lib.Dec.{ltb}
 use lib.IntN.{ℤ, pos, natAbs}
 use lib.ListN.{length, take, drop, replicate}
 use lib.Signed.{ltZ}
+use Rattle.numbers.specs.Numbers.{none}
 use Rattle.text.specs.Characters.{minusSign, point, zeroDigit}
-use Rattle.text.specs.Numbers.{mostDecimals, none, doesNotFit, tooManyDecimals}
+use Rattle.text.specs.Numbers.{mostDecimals, doesNotFit, tooManyDecimals}
 use Rattle.text.specs.declared.Written.{Written}
 
 -- the last k digits of n, zeros on the left

@@ -2,9 +2,9 @@
 use borrow.Author.Needs.{needs}
 use mathlib.Core.Path.{subst}
 use lib.IntN.{ℤ}
+use Rattle.numbers.specs.Promise.{Lent}
 use Rattle.sign.proofs.Laws.{read-back}
 use Rattle.table.specs.Table.{putNumber, putTable}
-use Rattle.table.specs.Promise.{Lent}
 use Rattle.panel.proofs.vb_put.Statement.{statement}
 use Rattle.panel.proofs.vb_put.Tie as tie
 

@@ -2,7 +2,7 @@
 use mathlib.Core.Path.{_≡_, sym, ap, ap₂, _∙_}
 use mathlib.Core.Bool.{Bool, cond}
 use native.Mathlib.Omega.{arith}
-use Rattle.table.specs.Table.{none}
+use Rattle.numbers.specs.Numbers.{none}
 use Rattle.registers.specs.Faults.{wrongRegister, inMap, readFault}
 use Rattle.registers.proofs.Faults.{wrong-length, read-none, read-many, read-span}
 use borrow.Author.Needs.{needs}

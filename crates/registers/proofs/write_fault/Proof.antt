@@ -2,9 +2,9 @@
 use mathlib.Core.Path.{_≡_, sym, ap, ap₂, _∙_}
 use mathlib.Core.Bool.{Bool, cond}
 use Prim.Native.Nat.{ℕ}
+use Rattle.numbers.specs.Numbers.{none}
 use Rattle.sign.proofs.Laws.{same}
 use Rattle.items.specs.ItemList.{itemAt, inRange}
-use Rattle.table.specs.Table.{none}
 use Rattle.registers.specs.Register.{ofRegister}
 use Rattle.registers.specs.Faults.{wrongData, firstWord, placeOf, writable, writeFault}
 use Rattle.registers.proofs.Faults.{wrong-length, write-refused, write-ranged}

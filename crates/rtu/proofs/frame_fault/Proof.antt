@@ -2,7 +2,7 @@
 use mathlib.Core.Path.{_≡_, sym, ap, _∙_}
 use mathlib.Core.Bool.{Bool, cond}
 use native.Mathlib.Omega.{arith}
-use Rattle.table.specs.Table.{none}
+use Rattle.numbers.specs.Numbers.{none}
 use Rattle.rtu.specs.Frame.{wrongCrc, frameFault}
 use Rattle.rtu.proofs.Refusals.{frame-short, frame-long, frame-crc}
 use borrow.Author.Needs.{needs}

@@ -4,9 +4,10 @@ use mathlib.Core.Path.{_≡_, ap, _∙_}
 use mathlib.Core.Bool.{Bool, cond}
 use native.Mathlib.Omega.{arith}
 use Prim.Native.Nat.{_-_}
+use Rattle.numbers.specs.Numbers.{none}
 use Rattle.sign.proofs.Laws.{same}
 use Rattle.items.specs.ItemList.{inRange}
-use Rattle.table.specs.Table.{none, valueOutside, stored, putNumber}
+use Rattle.table.specs.Table.{valueOutside, stored, putNumber}
 use Rattle.table.proofs.Laws.{put-fault, put-below, put-above, put-ranged, put-refused, put-accepted}
 use Rattle.table.proofs.put.Statement.{statement}
 use Rattle.table.proofs.put.Tie as tie

@@ -2,7 +2,8 @@
 use borrow.Author.Needs.{needs}
 use mathlib.Core.Path.{sym, ap, _∙_}
 use mathlib.Core.Bool.{Bool}
-use Rattle.rkc.specs.Outcome.{unless, badState}
+use Rattle.numbers.specs.Numbers.{unless}
+use Rattle.rkc.specs.Outcome.{badState}
 use Rattle.rkc.proofs.Cases.{call-short, call-setting, call-state}
 use Rattle.rkc.proofs.Link.fault.Statement.{statement}
 use Rattle.rkc.proofs.Link.fault.Tie as tie

@@ -1,8 +1,12 @@
 -- What the crates above use of tests: what two at once tell of each, and what holds of the answer that one picks.
 -- Assumes nothing.
-use mathlib.Core.Path.{_≡_, refl, sym}
+use mathlib.Core.Path.{_≡_, refl, sym, subst}
 use mathlib.Core.Bool.{Bool, true, false, cond, _&&_}
-use Rattle.sign.proofs.Laws.{contrary}
+use lib.Dec.{T}
+
+-- a test cannot have both answers
+pub contrary : {X : Type 0} → true ≡ false → X
+contrary e = absurd (subst T e tt)
 
 -- both tests held
 pub both : (a b : Bool) → (a && b) ≡ true → (a ≡ true) × (b ≡ true)

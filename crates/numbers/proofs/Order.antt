@@ -1,0 +1,44 @@
+-- Numbers tried in their order: which one is met, and what is known where none is.
+-- Assumes nothing.
+use mathlib.Core.Path.{_≡_, refl}
+use mathlib.Core.Bool.{Bool, true, false, cond}
+use mathlib.Core.List.{List, _∷_}
+use Prim.Native.Nat.{ℕ, _<_}
+use native.Mathlib.Omega.{arith}
+use borrow.Author.Tests.{eqb-true, eqb-false, eq-eqb, ne-eqb}
+use lib.Dec.{eqb}
+use Rattle.numbers.specs.Numbers.{none, unless, firstMet}
+use Rattle.numbers.proofs.Tests.{chosen}
+
+module _ (n : ℕ) (ns : List ℕ) where
+  -- a number that is met is the first; where it is not met those after it decide
+  pub this-met : (n ≡ none → ⊥) → firstMet (n ∷ ns) ≡ n
+  this-met h = rw (ne-eqb n none h)
+
+  pub not-met : n ≡ none → firstMet (n ∷ ns) ≡ firstMet ns
+  not-met e = rw (eq-eqb n none e)
+
+  -- where none is met, neither this one is nor any after it
+  pub none-met : firstMet (n ∷ ns) ≡ none → (n ≡ none) × (firstMet ns ≡ none)
+  none-met = by (eqb n none) refl
+    where
+      by : (b : Bool) → eqb n none ≡ b → cond b (firstMet ns) n ≡ none → (n ≡ none) × (firstMet ns ≡ none)
+      by true q e = (eqb-true n none q, e)
+      by false q e = absurd (eqb-false n none q e)
+
+  -- what holds of this one and of the first of those after it holds of the first of all
+  pub each : (P : ℕ → Type 0) → P n → P (firstMet ns) → P (firstMet (n ∷ ns))
+  each P p q = chosen P (eqb n none) (λ e. q) (λ e. p)
+
+-- a test that failed has its number met
+pub failed : (test : Bool) (n : ℕ) (ns : List ℕ) → test ≡ false → 0 < n → firstMet (unless test n ∷ ns) ≡ n
+failed test n ns e h = rw (e, ne-eqb n none (λ z. omega arith))
+
+-- a test that held is passed over
+pub held : (test : Bool) (n : ℕ) (ns : List ℕ) → test ≡ true → firstMet (unless test n ∷ ns) ≡ firstMet ns
+held test n ns e = rw e
+
+-- where its number is not met, a test held
+pub test-held : (test : Bool) (n : ℕ) → 0 < n → unless test n ≡ none → test ≡ true
+test-held true n h e = refl
+test-held false n h e = absurd (omega arith)
