@@ -54,6 +54,10 @@ itemList =
 abbrev pub items : ℕ
 items = 12
 
+-- the map is 0000H to 0012H
+abbrev pub mapSize : ℕ
+mapSize = 19
+
 -- what stands past the list: nothing may be written to it, and no value is in its range
 abbrev pub noItem : Item
 noItem = line 0 0 0 read 0 (pos 1) (pos 0) (pos 0)
@@ -92,3 +96,8 @@ found a b = firstFrom 0 (named a b) itemList
 
 unfoldable pub foundByRegister : ℕ → Found
 foundByRegister r = firstFrom 0 (registered r) itemList
+
+-- the place of the item that was found; past the list for none
+abbrev pub placeFound : Found → ℕ
+placeFound (At i) = i
+placeFound Nothing = items

@@ -10,13 +10,16 @@ pub enum Found {
 
 pub const ITEMS: usize = 12;
 
+// The registers from 0000H to 0012H.
+pub const MAP_SIZE: usize = 19;
+
 // The item list, a column for each thing that it says of an item, in the list's order:
 // M1, AA, AB, B1, ER, S1, A1, A2, PB, PR, F1, TM.
-const FIRST: [u8; 12] = *b"MAABESAAPPFT";
+const FIRST: [u8; ITEMS] = *b"MAABESAAPPFT";
 
-const SECOND: [u8; 12] = *b"1AB1R112BR1M";
+const SECOND: [u8; ITEMS] = *b"1AB1R112BR1M";
 
-const WRITABLE: [bool; 12] = [
+const WRITABLE: [bool; ITEMS] = [
     false,
     false,
     false,
@@ -31,16 +34,16 @@ const WRITABLE: [bool; 12] = [
     true,
 ];
 
-const DECIMALS: [u8; 12] = [1, 0, 0, 0, 0, 1, 1, 1, 2, 3, 0, 0];
+const DECIMALS: [u8; ITEMS] = [1, 0, 0, 0, 0, 1, 1, 1, 2, 3, 0, 0];
 
-pub const LOW: [i32; 12] = [-1999, 0, 0, 0, 0, -1999, -1999, -1999, -1000, 500, 0, 0];
+pub const LOW: [i32; ITEMS] = [-1999, 0, 0, 0, 0, -1999, -1999, -1999, -1000, 500, 0, 0];
 
-pub const HIGH: [i32; 12] = [9999, 0, 0, 1, 255, 9999, 9999, 9999, 1000, 1500, 100, 999];
+pub const HIGH: [i32; ITEMS] = [9999, 0, 0, 1, 255, 9999, 9999, 9999, 1000, 1500, 100, 999];
 
-pub const START: [i32; 12] = [0, 0, 0, 0, 0, 0, 500, 500, 0, 1000, 0, 0];
+pub const START: [i32; ITEMS] = [0, 0, 0, 0, 0, 0, 500, 500, 0, 1000, 0, 0];
 
 // The number of the item that has this register, for each register of the map; 0 where none has it.
-const NUMBER_AT: [u8; 19] = [1, 2, 3, 4, 5, 0, 0, 0, 12, 0, 0, 6, 7, 0, 8, 0, 9, 10, 11];
+const NUMBER_AT: [u8; MAP_SIZE] = [1, 2, 3, 4, 5, 0, 0, 0, 12, 0, 0, 6, 7, 0, 8, 0, 9, 10, 11];
 
 // The first character of an item's identifier; 0 past the list.
 fn first(i: usize) -> u8
@@ -98,7 +101,7 @@ pub fn find(a: u8, b: u8) -> Found
 pub fn find_register(register: u16) -> Found
     ensures { λ r. ⌜ r ≡ foundByRegister register ⌝ }
 {
-    if register < 19 {
+    if (register as usize) < MAP_SIZE {
         let number = NUMBER_AT[register as usize];
         if number == 0 {
             Found::Nothing

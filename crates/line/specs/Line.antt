@@ -25,6 +25,10 @@ ACK = 0x06
 abbrev pub NAK : ℕ
 NAK = 0x15
 
+-- the line structures are 0, 1 and 2
+abbrev pub lastStructure : ℕ
+lastStructure = 2
+
 -- the bit above the seven of a character
 abbrev pub topBit : ℕ
 topBit = 0x80

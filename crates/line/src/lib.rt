@@ -15,6 +15,9 @@ pub const ACK: u8 = 0x06;
 
 pub const NAK: u8 = 0x15;
 
+// The line structures are 0, 1 and 2.
+pub const LAST_STRUCTURE: u8 = 2;
+
 // The bit above the seven of a character.
 pub const TOP_BIT: u8 = 0x80;
 

@@ -11,6 +11,8 @@ ghost use Rattle.registers.specs.Faults.{readFault};
 ghost use Rattle.modbus.specs.Outcome.{topBitSet, exceptionReply};
 ghost use Rattle.modbus.specs.Rules.{readReply, reading, writing, loopingBack, obeying, actedWithin};
 ghost use Rattle.modbus.specs.Promise.{Sends, Gives};
+use numbers::LEAST_BUFFER;
+use numbers::SHORT_BUFFER;
 
 // What a call hands back: the number, 0 for none, and the length of the reply.
 pub struct Answered {
@@ -18,12 +20,7 @@ pub struct Answered {
     pub len: usize,
 }
 
-// The least room that a reply is given.
-pub const LEAST_BUFFER: usize = 256;
-
 // Numbers given back.
-pub const SHORT_BUFFER: u8 = 3;
-
 pub const OTHER_ADDRESS: u8 = 23;
 
 pub const UNKNOWN_FUNCTION: u8 = 31;

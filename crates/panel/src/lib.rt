@@ -15,9 +15,7 @@ ghost use Rattle.panel.specs.Promise.{LentBytes, ReadText, longestReply,
 use rkc::Link;
 use rkc::Stepped;
 
-// Numbers given back.
-const SHORT_BUFFER: u32 = 3;
-
+// The number given back for a state of another length.
 const BAD_STATE: u32 = 5;
 
 // ---- what a step hands back
@@ -149,7 +147,7 @@ pub extern "C" fn vb_write_text(decimals: u8, value: i32, chars: &mut [u8]) -> u
     ensures { λ r. ⌜ LentBytes (textNumber decimals value (now (chars .entry))) (textLeft decimals value (now (chars .entry))) r (now (chars .exit)) ⌝ }
 {
     if chars.len() < text::WIDTH {
-        return SHORT_BUFFER;
+        return numbers::SHORT_BUFFER as u32;
     }
     let written = text::write(decimals, value);
     let six = written.chars;

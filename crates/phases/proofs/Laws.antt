@@ -10,7 +10,7 @@ use Rattle.numbers.proofs.Tests.{chosen}
 use Rattle.line.specs.Line.{STX, ETX, EOT, ENQ, ACK, NAK, topBit, printable, isLineError}
 use Rattle.line.proofs.Laws.{printable-small}
 use Rattle.phases.specs.Phases.{rest, firstDigit, secondDigit, addressed, oneCharacter, twoCharacters, waiting, text, bccDue, answered}
-use Rattle.phases.specs.Phases.{lastItem}
+use Rattle.items.specs.ItemList.{items}
 use Rattle.phases.specs.Decision.{isTheDigit, atDigit, atAddressed, astray, atOneCharacter, atTwoCharacters, atWaiting, atText, atAnswered, decided}
 use Rattle.phases.specs.Limits.{Listed, Limited}
 use Rattle.phases.specs.declared.Act.the-variants.{Go}
@@ -39,7 +39,7 @@ two-characters-limited first second c = chosen Limited (eqb c ENQ) (λ _. tt) (�
 waiting-limited : (item c : ℕ) → Listed item → Limited (atWaiting item c)
 waiting-limited item c h =
     chosen Limited (eqb c ACK)
-    (λ _. chosen Limited (ltb item lastItem) (λ e. let below = ltb-true item lastItem e in omega arith) (λ _. tt))
+    (λ _. chosen Limited (ltb item items) (λ e. let below = ltb-true item items e in omega arith) (λ _. tt))
     (λ _. chosen Limited (eqb c NAK) (λ _. h) (λ _. tt))
 
 text-limited : (c : ℕ) → Limited (atText c)

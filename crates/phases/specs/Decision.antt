@@ -4,8 +4,9 @@ use mathlib.Core.Bool.{Bool, false, cond}
 use Prim.Native.Nat.{ℕ, _+_, _-_, _/_, _%_}
 use lib.Dec.{ltb, eqb}
 use Rattle.line.specs.Line.{STX, ETX, EOT, ENQ, ACK, NAK, within, printable, isLineError}
+use Rattle.items.specs.ItemList.{items}
 use Rattle.phases.specs.Phases.{rest, firstDigit, secondDigit, addressed, oneCharacter, twoCharacters, waiting, text, bccDue, answered}
-use Rattle.phases.specs.Phases.{notBelonging, notAwaited, listEnded, lastItem}
+use Rattle.phases.specs.Phases.{notBelonging, notAwaited, listEnded}
 use Rattle.phases.specs.declared.Act.{Act}
 use Rattle.phases.specs.declared.Act.the-variants.{Go, First, Both, More, Ended, Quit, Poll, Send, Judge}
 
@@ -46,7 +47,7 @@ atTwoCharacters first second c = cond (eqb c ENQ) (Poll first second) (astray c)
 -- ACK sends the next item of the list, after the last one EOT and rest; NAK sends the same item; any other byte: EOT, rest
 abbrev pub atWaiting : ℕ → ℕ → Act
 atWaiting item c =
-    cond (eqb c ACK) (cond (ltb item lastItem) (Send (item + 1)) (Quit listEnded))
+    cond (eqb c ACK) (cond (ltb item items) (Send (item + 1)) (Quit listEnded))
     (cond (eqb c NAK) (Send item) (Quit notAwaited))
 
 -- all bytes but ETX (and EOT) are text

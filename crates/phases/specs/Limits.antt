@@ -2,13 +2,14 @@
 use mathlib.Core.Path.{_≡_}
 use Prim.Native.Nat.{ℕ, _≤_, _<_}
 use Rattle.line.specs.Line.{topBit}
-use Rattle.phases.specs.Phases.{waiting, answered, lastItem}
+use Rattle.items.specs.ItemList.{items}
+use Rattle.phases.specs.Phases.{waiting, answered}
 use Rattle.phases.specs.declared.Act.{Act}
 use Rattle.phases.specs.declared.Act.the-variants.{Go, First, Both, More, Ended, Quit, Poll, Send, Judge}
 
 -- an item of the list
 abbrev pub Listed : ℕ → Type 0
-Listed item = (1 ≤ item) × (item ≤ lastItem)
+Listed item = (1 ≤ item) × (item ≤ items)
 
 -- a known phase that needs no item, since all else becomes 0; kept characters below 80H; an item of the list
 abbrev pub Limited : Act → Type 0

@@ -52,7 +52,3 @@ notAwaited = 43
 -- the list has no next item: an end and no fault
 abbrev pub listEnded : ℕ
 listEnded = 45
-
--- the last of the item list
-abbrev pub lastItem : ℕ
-lastItem = 12

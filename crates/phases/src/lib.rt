@@ -46,9 +46,6 @@ pub const NOT_AWAITED: u8 = 43;
 // the list has no next item: an end and no fault
 pub const LIST_ENDED: u8 = 45;
 
-// the last of the item list
-pub const LAST_ITEM: u8 = 12;
-
 // What a byte asks for.
 pub enum Act {
     // silence, and this phase with all else 0
@@ -124,7 +121,7 @@ fn at_waiting(item: u8, c: u8) -> Act
     ensures { λ r. ⌜ r ≡ atWaiting item c ⌝ }
 {
     match c {
-        ACK => if item < LAST_ITEM {
+        ACK => if (item as usize) < items::ITEMS {
             Act::Send(item + 1)
         } else {
             Act::Quit(LIST_ENDED)

@@ -6,9 +6,7 @@ use lib.Dec.{eqb, leb}
 use lib.IntN.{ℤ}
 use lib.ListN.{getD, length}
 use Rattle.numbers.specs.Numbers.{none}
-use Rattle.items.specs.declared.Found.{Found}
-use Rattle.items.specs.declared.Found.the-variants.{At, Nothing}
-use Rattle.items.specs.ItemList.{items, itemAt, foundByRegister, inRange}
+use Rattle.items.specs.ItemList.{mapSize, itemAt, foundByRegister, placeFound, inRange}
 use Rattle.table.specs.Table.{stored}
 use Rattle.registers.specs.Register.{ofRegister, word}
 
@@ -40,10 +38,6 @@ must test number others = cond test others number
 abbrev pub mostRegisters : ℕ
 mostRegisters = 125
 
--- the map is 0000H to 0012H
-abbrev pub mapSize : ℕ
-mapSize = 19
-
 abbrev pub inMap : ℕ → ℕ → Bool
 inMap start quantity = leb (start + quantity) mapSize
 
@@ -56,11 +50,7 @@ readFault body =
 
 -- ---- 06H: a register and a value
 
--- the place of the item that was found; past the list for none
-abbrev pub placeFound : Found → ℕ
-placeFound (At i) = i
-placeFound Nothing = items
-
+-- the place of the item that has a register
 unfoldable pub placeOf : ℕ → ℕ
 placeOf register = placeFound (foundByRegister register)
 

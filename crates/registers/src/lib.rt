@@ -15,8 +15,6 @@ const BODY_LENGTH: usize = 6;
 
 const MOST_REGISTERS: u16 = 125;
 
-const MAP_SIZE: u32 = 19;
-
 // ---- words
 
 // A byte of the body, 0 past its end: a body of any length has its words.
@@ -82,7 +80,7 @@ pub fn register_at(table: &[i32], register: u16) -> u16
 fn in_map(start: u16, quantity: u16) -> bool
     ensures { λ r. ⌜ r ≡ inMap start quantity ⌝ }
 {
-    (start as u32) + (quantity as u32) <= MAP_SIZE
+    (start as usize) + (quantity as usize) <= items::MAP_SIZE
 }
 
 // The fault of a request to read, 0 for none.

@@ -12,9 +12,9 @@ use lib.ListN.{getD, take, drop}
 use Rattle.numbers.proofs.Tests.{chosen}
 use Rattle.items.specs.declared.Found.{Found}
 use Rattle.items.specs.declared.Found.the-variants.{At, Nothing}
-use Rattle.items.specs.ItemList.{itemAt, found}
+use Rattle.items.specs.ItemList.{items, itemAt, found}
 use Rattle.line.specs.Line.{STX, EOT, ENQ, ACK, NAK, printable, isLineError}
-use Rattle.phases.specs.Phases.{firstDigit, secondDigit, addressed, oneCharacter, twoCharacters, waiting, text, bccDue, answered, lastItem}
+use Rattle.phases.specs.Phases.{firstDigit, secondDigit, addressed, oneCharacter, twoCharacters, waiting, text, bccDue, answered}
 use Rattle.phases.specs.Decision.{isTheDigit, astray, decided}
 use Rattle.phases.specs.declared.Act.{Act}
 use Rattle.text.specs.Numbers.{width}
@@ -146,7 +146,7 @@ module _ (l k : Link) (t : List ℤ) (structure time : ℕ) where
       (λ _. chosen Same (eqb phase oneCharacter) (λ _. chosen Same (printable c) (λ _. refl) (λ _. astray-same c))
       (λ _. chosen Same (eqb phase twoCharacters) (λ _. chosen Same (eqb c ENQ) (λ _. refl) (λ _. astray-same c))
       (λ _. chosen Same (eqb phase waiting)
-      (λ _. chosen Same (eqb c ACK) (λ _. chosen Same (ltb item lastItem) (λ _. refl) (λ _. refl)) (λ _. chosen Same (eqb c NAK) (λ _. refl) (λ _. refl)))
+      (λ _. chosen Same (eqb c ACK) (λ _. chosen Same (ltb item items) (λ _. refl) (λ _. refl)) (λ _. chosen Same (eqb c NAK) (λ _. refl) (λ _. refl)))
       (λ _. chosen Same (eqb phase answered) (λ _. chosen Same (eqb c STX) (λ _. refl) (λ _. refl)) (λ _. refl)))))))))
 
 -- in a block that is what is used

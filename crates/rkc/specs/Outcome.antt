@@ -5,12 +5,12 @@ use Prim.Native.Nat.{ℕ, _+_, _-_, _%_, _^_}
 use lib.Dec.{leb, eqb}
 use lib.IntN.{ℤ}
 use lib.ListN.{getD}
-use Rattle.numbers.specs.Numbers.{none, unless, firstMet, shortBuffer, leastBuffer, badSetting}
+use Rattle.numbers.specs.Numbers.{none, unless, firstMet, shortBuffer, leastBuffer, badSetting, lastAddress}
 use Rattle.items.specs.declared.Found.{Found}
 use Rattle.items.specs.declared.Found.the-variants.{At, Nothing}
 use Rattle.items.specs.ItemList.{itemAt, found}
 use Rattle.table.specs.Table.{tableFault, answered, stored}
-use Rattle.line.specs.Line.{STX, ETX, EOT, ACK, NAK, sent, heard, bcc}
+use Rattle.line.specs.Line.{STX, ETX, EOT, ACK, NAK, lastStructure, sent, heard, bcc}
 use Rattle.text.specs.Numbers.{width}
 use Rattle.text.specs.declared.Written.{Written}
 use Rattle.text.specs.Writing.{written}
@@ -124,7 +124,7 @@ callFault l buffer settings =
 
 -- an address up to 99, a structure up to 2
 abbrev pub goodSettings : ℕ → ℕ → Bool
-goodSettings address structure = leb address 99 && leb structure 2
+goodSettings address structure = leb address lastAddress && leb structure lastStructure
 
 -- a byte call looks at the table first
 unfoldable pub byteFault : Link → List ℤ → ℕ → ℕ → ℕ → ℕ
@@ -152,7 +152,7 @@ patience = 3000
 
 -- an idle call has no table and no address
 unfoldable pub idleFault : Link → ℕ → ℕ → ℕ
-idleFault l buffer structure = callFault l buffer (leb structure 2)
+idleFault l buffer structure = callFault l buffer (leb structure lastStructure)
 
 -- waiting for three seconds or more: EOT, rest; else the state stays
 abbrev pub passed : Link → ℕ → ℕ → Step

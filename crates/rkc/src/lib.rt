@@ -23,9 +23,14 @@ use items::Found;
 use line::ACK;
 use line::EOT;
 use line::ETX;
+use line::LAST_STRUCTURE;
 use line::NAK;
 use line::STX;
 use line::TOP_BIT;
+use numbers::BAD_SETTING;
+use numbers::LAST_ADDRESS;
+use numbers::LEAST_BUFFER;
+use numbers::SHORT_BUFFER;
 use phases::ANSWERED;
 use phases::Act;
 use phases::BCC_DUE;
@@ -54,18 +59,11 @@ pub struct Stepped {
 }
 
 // Numbers given back.
-const SHORT_BUFFER: u8 = 3;
-
-const BAD_SETTING: u8 = 4;
-
 const BAD_STATE: u8 = 5;
 
 const TIMED_OUT: u8 = 44;
 
 const NO_ROOM: u8 = 46;
-
-// The least reply buffer.
-const LEAST_BUFFER: usize = 256;
 
 // Up to here a block's characters are counted.
 const MOST_COUNTED: u8 = 9;
@@ -366,7 +364,7 @@ impl Link {
     fn idle_fault(self, buffer: usize, structure: u8) -> u8
         ensures { λ r. ⌜ r ≡ idleFault self buffer structure ⌝ }
     {
-        self.fault(buffer, structure <= 2)
+        self.fault(buffer, structure <= LAST_STRUCTURE)
     }
 }
 
@@ -374,7 +372,7 @@ impl Link {
 fn good_settings(address: u8, structure: u8) -> bool
     ensures { λ r. ⌜ r ≡ goodSettings address structure ⌝ }
 {
-    if address <= 99 { structure <= 2 } else { false }
+    address <= LAST_ADDRESS && structure <= LAST_STRUCTURE
 }
 
 // Whether an item is one of the list.

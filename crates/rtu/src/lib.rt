@@ -8,18 +8,18 @@ ghost use Rattle.modbus.specs.Promise.{Gives};
 ghost use Rattle.rtu.specs.Frame.{callFault, frameFault, refusal, withCrc};
 ghost use Rattle.rtu.specs.Promise.{Acts};
 use modbus::Answered;
+use numbers::BAD_SETTING;
+use numbers::LAST_ADDRESS;
+use numbers::LEAST_BUFFER;
+use numbers::SHORT_BUFFER;
 
 // Numbers given back, beside those of the table and of the message.
-pub const BAD_SETTING: u8 = 4;
-
 pub const WRONG_FRAME_LENGTH: u8 = 21;
 
 pub const WRONG_CRC: u8 = 22;
 
-// The addresses that a device can have, and the lengths that a frame can have.
+// The least address that a device can have, and the lengths that a frame can have.
 const FIRST_ADDRESS: u8 = 1;
-
-const LAST_ADDRESS: u8 = 99;
 
 const SHORTEST: usize = 4;
 
@@ -33,8 +33,8 @@ fn call_fault(table: &[i32], room: usize, address: u8) -> u8
     if fault != 0 {
         return fault;
     }
-    if room < modbus::LEAST_BUFFER {
-        return modbus::SHORT_BUFFER;
+    if room < LEAST_BUFFER {
+        return SHORT_BUFFER;
     }
     match address {
         FIRST_ADDRESS..=LAST_ADDRESS => 0,

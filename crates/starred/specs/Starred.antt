@@ -9,7 +9,7 @@ use lib.IntN.{ℤ, pos}
 use lib.ListN.{getD}
 use Rattle.numbers.specs.Numbers.{none, leastBuffer}
 use Rattle.sign.specs.Sign.{minus}
-use Rattle.items.specs.ItemList.{found}
+use Rattle.items.specs.ItemList.{found, placeFound}
 use Rattle.table.specs.Table.{startValues, entry}
 use Rattle.line.specs.Line.{STX, ETX, EOT, ACK, sent, bcc}
 use Rattle.text.specs.Numbers.{width, doesNotFit, noNumber}
@@ -20,7 +20,6 @@ use Rattle.block.specs.Block.{outOfRange}
 use Rattle.rkc.specs.State.{inPhase}
 use Rattle.rkc.specs.Outcome.{Outcome, silent, received}
 use Rattle.crc.specs.Crc.{isRight}
-use Rattle.registers.specs.Faults.{placeFound}
 use Rattle.modbus.specs.Outcome as modbus
 use Rattle.rtu.specs.Frame.{actedOn}
 use Rattle.starred.specs.Ascii.{ascii}

@@ -10,12 +10,12 @@ use Rattle.items.proofs.find_register.Tie as tie
 array-read-number : tie.Need-array-read-number
 array-read-number c = search needs
 
-sub-t12 : tie.Need-sub-t12
-sub-t12 c = search needs
+sub-t13 : tie.Need-sub-t13
+sub-t13 c = search needs
 
-cast-t13 : tie.Need-cast-t13
+cast-t14 : tie.Need-cast-t14
 unfolding numberAt
-cast-t13 c = omega (arith, number-small (c .before .before .args .register) (c .before .if1 .taken))
+cast-t14 c = omega (arith, number-small (c .before .before .args .register) (c .before .if1 .taken))
 
 returns : tie.Need-returns
 unfolding numberAt
@@ -34,4 +34,4 @@ returns-3 c = sym (nothing-past (c .before .args .register) (c .if1 .left))
 
 pub find-register-spec : {M : Type 1} → statement M
 find-register-spec =
-    tie.close (tie.spec array-read-number sub-t12 cast-t13 returns returns-2 returns-3)
+    tie.close (tie.spec array-read-number sub-t13 cast-t14 returns returns-2 returns-3)

@@ -10,6 +10,9 @@ use Rattle.text.specs.Writing.{written}
 use Rattle.panel.proofs.vb_write_text.Statement.{statement}
 use Rattle.panel.proofs.vb_write_text.Tie as tie
 
+cast-result : tie.Need-cast-result
+cast-result c = search needs
+
 returns : tie.Need-returns
 returns c =
     let narrow = lt-leb width (length (c .before .before .args .chars .now)) (omega arith) in
@@ -21,8 +24,8 @@ write-requires c κs = search needs
 put-six-requires : tie.Need-put-six-requires
 put-six-requires c κs = search needs
 
-cast-result : tie.Need-cast-result
-cast-result c = search needs
+cast-result-2 : tie.Need-cast-result-2
+cast-result-2 c = search needs
 
 same-length : tie.Need-same-length
 same-length c = search needs
@@ -39,4 +42,4 @@ returns-2 c =
 
 pub vb-write-text-spec : {M : Type 1} → statement M
 vb-write-text-spec =
-    tie.close (tie.spec returns write-requires put-six-requires cast-result same-length returns-2)
+    tie.close (tie.spec cast-result returns write-requires put-six-requires cast-result-2 same-length returns-2)

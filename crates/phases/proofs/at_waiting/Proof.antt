@@ -3,22 +3,22 @@
 use native.Mathlib.Omega.{arith}
 use borrow.Author.Needs.{needs}
 use borrow.Author.Tests.{lt-ltb, le-ltb, ne-eqb}
-use Rattle.phases.specs.Phases.{lastItem}
+use Rattle.items.specs.ItemList.{items}
 use Rattle.phases.proofs.at_waiting.Statement.{statement}
 use Rattle.phases.proofs.at_waiting.Tie as tie
 
-add-t6 : tie.Need-add-t6
-add-t6 c = search needs
+add-t7 : tie.Need-add-t7
+add-t7 c = search needs
 
 returns : tie.Need-returns
 returns c =
     let item = c .before .before .args .item in
-    rw (c .before .match .keys1) (simp (lt-ltb item lastItem (omega arith)))
+    rw (c .before .match .keys1) (simp (lt-ltb item items (omega arith)))
 
 returns-2 : tie.Need-returns-2
 returns-2 c =
     let item = c .before .before .args .item in
-    rw (c .before .match .keys1) (simp (le-ltb item lastItem (omega arith)))
+    rw (c .before .match .keys1) (simp (le-ltb item items (omega arith)))
 
 returns-3 : tie.Need-returns-3
 returns-3 c = rw (c .match .keys2)
@@ -27,4 +27,4 @@ returns-4 : tie.Need-returns-4
 returns-4 c = simp (ne-eqb _ _ (c .match .rest .0 .1), ne-eqb _ _ (c .match .rest .1))
 
 pub at-waiting-spec : {M : Type 1} → statement M
-at-waiting-spec = tie.close (tie.spec add-t6 returns returns-2 returns-3 returns-4)
+at-waiting-spec = tie.close (tie.spec add-t7 returns returns-2 returns-3 returns-4)

@@ -1,4 +1,4 @@
--- `registers::in_map` meets its contract: the sum is made in 32 bits, where it does not wrap. Assumes nothing.
+-- `registers::in_map` meets its contract: the sum is made in 64 bits, where it does not wrap. Assumes nothing.
 use borrow.Author.Needs.{needs}
 use mathlib.Core.Path.{refl}
 use Rattle.registers.proofs.in_map.Statement.{statement}

@@ -1,7 +1,8 @@
 -- `registers::place_of` meets its contract: what the search found decides. Assumes nothing.
 use borrow.Author.Needs.{needs}
 use mathlib.Core.Path.{sym, ap, _∙_}
-use Rattle.registers.specs.Faults.{placeFound, placeOf}
+use Rattle.items.specs.ItemList.{placeFound}
+use Rattle.registers.specs.Faults.{placeOf}
 use Rattle.registers.proofs.place_of.Statement.{statement}
 use Rattle.registers.proofs.place_of.Tie as tie
 
