@@ -12,11 +12,10 @@ use Rattle.sign.specs.Sign.{minus}
 use Rattle.items.specs.ItemList.{found, placeFound}
 use Rattle.table.specs.Table.{startValues, entry}
 use Rattle.line.specs.Line.{STX, ETX, EOT, ACK, sent, bcc}
-use Rattle.text.specs.Numbers.{width, doesNotFit, noNumber}
+use Rattle.text.specs.Numbers.{width}
 use Rattle.text.specs.Writing.{written}
 use Rattle.text.specs.declared.Written.{Written}
 use Rattle.phases.specs.Phases.{rest}
-use Rattle.block.specs.Block.{outOfRange}
 use Rattle.rkc.specs.State.{inPhase}
 use Rattle.rkc.specs.Outcome.{Outcome, silent, received}
 use Rattle.crc.specs.Crc.{isRight}
@@ -81,18 +80,18 @@ table =
     -- in range once it is cut off
     ∷ block "PB" "10.009" gives value (pos 1000)
     -- the first value below the range
-    ∷ block "PB" "-10.01" gives number outOfRange
+    ∷ block "PB" "-10.01" gives number 18
     -- a plus is no part of a number
-    ∷ block "PB" "+0" gives number noNumber
+    ∷ block "PB" "+0" gives number 16
     -- a number has a digit
-    ∷ block "PB" "-." gives number noNumber
+    ∷ block "PB" "-." gives number 16
     -- F1, no decimals, 0 to 100: cut off to minus zero
     ∷ block "F1" "-.9" gives value (pos 0)
     -- two decimals, zeros on the left
     ∷ writing 2 (minus 5) gives text (ascii "-00.05")
     -- the least that fits with one decimal, and one less
     ∷ writing 1 (minus 9999) gives text (ascii "-999.9")
-    ∷ writing 1 (minus 10000) gives number doesNotFit
+    ∷ writing 1 (minus 10000) gives number 8
     -- 43H has three ones; structure 1 makes them even
     ∷ sending 1 0x43 gives byte 0xC3
     -- a frame of document 004, and its echo at address 1

@@ -1,14 +1,12 @@
--- Two answers that meet one promise of this crate are the same answer: each promise is an equation.
+-- Each public function of this crate promises one outcome.
 -- Assumes nothing.
-use mathlib.Core.Path.{_≡_}
-use mathlib.Core.List.{List}
-use Prim.Native.Nat.{ℕ}
-use Rattle.numbers.proofs.Single.{single}
-use Rattle.rkc.specs.declared.Link.{Link}
-use Rattle.state.specs.State.{unpacked, packedInto}
+use mathlib.Core.Path.{refl}
+use Rattle.numbers.specs.Promise.{OneOutcome}
+use Rattle.numbers.proofs.Single.{single, _&_}
+use Rattle.state.proofs as state
 
-pub unpack-single : (s : List ℕ) {l k : Link} → l ≡ unpacked s → k ≡ unpacked s → l ≡ k
-unpack-single s = single
+pub unpack : OneOutcome state.unpack.ended state.unpack.Reads.Asked state.unpack.Reads.Post
+unpack = record { asksNothing = λ κs a. tt; single = λ κs a o u p q. single p q & refl }
 
-pub pack-single : (s : List ℕ) (l : Link) {held kept : List ℕ} → held ≡ packedInto s l → kept ≡ packedInto s l → held ≡ kept
-pack-single s l = single
+pub pack : OneOutcome state.pack.ended state.pack.Reads.Asked state.pack.Reads.Post
+pack = record { asksNothing = λ κs a. tt; single = λ κs a o u p q. refl & single p q & refl }

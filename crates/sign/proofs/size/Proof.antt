@@ -1,11 +1,11 @@
 -- `sign::size` meets its contract: in 64 bits the number taken from zero is its size, and the size fits 32 bits.
 -- Assumes nothing.
-use mathlib.Core.Path.{_≡_, ap, _∙_}
+use mathlib.Core.Path.{_≡_, ap, subst⁻¹, _∙_}
 use native.Mathlib.Omega.{arith}
 use borrow.Author.Needs.{needs}
 use lib.IntN.{ℤ, pos, natAbs, _-ℤ_}
 use mir.Syntax.{w32, w64}
-use mir.Val.{toZ, ofZ}
+use mir.Val.{SFits, toZ, ofZ}
 use mir.Facts.{toZ-ofZ, sfits-widen}
 use Rattle.sign.proofs.Laws.{below-zero, not-below-zero, read-back, size-small, widened}
 use Rattle.sign.proofs.size.Statement.{statement}
@@ -22,7 +22,8 @@ difference c =
     ap (λ (z : ℤ). pos 0 -ℤ z) (widened v f) ∙ below-zero v (rw (read-back v f) at (c .if1 .taken))
 
 sub-result : tie.Need-sub-result
-sub-result c = rw (difference c) (record { sfits = let h = size-small (c .before .args .v) (c .before .fits .v) in omega arith })
+sub-result c =
+    subst⁻¹ (SFits w64) (difference c) (record { sfits = let h = size-small (c .before .args .v) (c .before .fits .v) in omega arith })
 
 negated : (c : tie.Then1) → toZ w64 (ofZ w64 (pos 0 -ℤ toZ w64 (ofZ w64 (toZ w32 (ofZ w32 (c .before .args .v)))))) ≡ pos (natAbs (c .before .args .v))
 negated c = toZ-ofZ {w = w64} (sub-result c) ∙ difference c
