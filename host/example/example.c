@@ -1,15 +1,15 @@
 /* A panel on two lines, as firmware would run it: what it keeps, and what it does at the start, for
  * each byte of the RKC line, while that line is silent, and for each frame of the Modbus line.
  *
- * main() plays the outside world: a host sets the offset and asks for it, then falls silent;
- * another one tries the Modbus line. In firmware its calls come from the serial drivers and the
- * clock. */
+ * main() plays the outside world: a host sets the offset and asks for it, then falls silent; it
+ * tries again to set it, and a byte is damaged on the way; another host tries the Modbus line. In
+ * firmware its calls come from the serial drivers and the clock. */
 #include "vennebruis.h"
 
 /* Of the C library. Declared here, since a cross compiler may come without its headers. */
 int printf(const char *format, ...);
 
-enum { ADDRESS = 1 };
+enum { ADDRESS = 1, STRUCTURE = VB_TOP_BIT_ZERO };
 
 /* All that is kept between calls. The reply buffer may be shared, as a reply is sent before the
  * next call. */
@@ -18,9 +18,9 @@ static uint8_t link_state[VB_STATE_BYTES];
 static uint8_t reply[VB_REPLY_BYTES];
 
 /* Hands bytes to a line's serial driver. Here they are shown instead. */
-static void transmit(const char *line, const uint8_t *bytes, size_t n) {
+static void transmit(const char *line, const uint8_t *bytes, uint32_t n) {
     printf("%s", line);
-    for (size_t i = 0; i < n; i++)
+    for (uint32_t i = 0; i < n; i++)
         printf(" %02X", bytes[i]);
     printf("\n");
 }
@@ -47,18 +47,25 @@ static void measured(int32_t value) {
 /* A byte has come on the RKC line. */
 static void rkc_received(uint8_t byte, uint32_t now) {
     act_on("rkc", vb_byte(link_state, sizeof link_state, table, VB_TABLE_ENTRIES, reply,
-                          sizeof reply, ADDRESS, VB_TOP_BIT_ZERO, now, byte));
+                          sizeof reply, ADDRESS, STRUCTURE, now, byte));
 }
+
+/* A byte has come on the RKC line that the UART reports with a framing error or an overrun. */
+static void rkc_damaged(uint32_t now) { rkc_received(VB_DAMAGED(STRUCTURE), now); }
 
 /* Nothing has come on the RKC line for a while. */
 static void rkc_silent(uint32_t now) {
-    act_on("rkc",
-           vb_idle(link_state, sizeof link_state, reply, sizeof reply, VB_TOP_BIT_ZERO, now));
+    act_on("rkc", vb_idle(link_state, sizeof link_state, reply, sizeof reply, STRUCTURE, now));
 }
 
-/* A silence on the Modbus line has ended a frame. */
-static void rtu_received(const uint8_t *frame, size_t n) {
+/* A silence on the Modbus line has ended a frame. One with a damaged byte is dropped before. */
+static void rtu_received(const uint8_t *frame, uint64_t n) {
     act_on("rtu", vb_rtu(table, VB_TABLE_ENTRIES, reply, sizeof reply, ADDRESS, frame, n));
+}
+
+static void all_received(const uint8_t *bytes, uint32_t n, uint32_t now) {
+    for (uint32_t i = 0; i < n; i++)
+        rkc_received(bytes[i], now);
 }
 
 int main(void) {
@@ -71,10 +78,13 @@ int main(void) {
 
     start();
     measured(125);
-    for (size_t i = 0; i < sizeof heard; i++)
-        rkc_received(heard[i], 1000);
+    all_received(heard, sizeof heard, 1000);
     rkc_silent(3999);
     rkc_silent(4000);
+    /* The block once more, with its "-" damaged. */
+    all_received(heard, 6, 5000);
+    rkc_damaged(5000);
+    all_received(heard + 7, 3, 5000);
     rtu_received(loopback, sizeof loopback);
     rtu_received(read_offset, sizeof read_offset);
     return 0;

@@ -2,7 +2,7 @@
  *
  * The library keeps nothing between calls and allocates nothing. All that it works on is lent by
  * the caller for one call: the table of item values, the state of the RKC link, and a buffer for
- * the reply. Calls that are lent different memory may run at the same time.
+ * the reply.
  *
  * What is lent
  *   Each lent array is a pointer with the number of its elements (bytes for uint8_t, entries for
@@ -10,19 +10,50 @@
  *   length is 0, and is aligned as its type asks. A wrong length or wrong contents do no harm:
  *   they are refused by a number.
  *
+ *   Lengths are uint64_t and not size_t: the library has lengths of 64 bits on every processor, and
+ *   both sides of a call must agree on them also where size_t has 32.
+ *
  * What comes back
  *   Each call gives number + 256 * reply length. VB_NUMBER and VB_LENGTH take it apart. The reply
  *   stands in the first VB_LENGTH bytes of the reply buffer and is to be sent as it stands; where
  *   VB_LENGTH is 0 nothing is to be sent. All bytes behind it stay as they were.
  *
- * A number from 1 to 9 is the caller's fault, and such a call changes nothing that it was lent
- * (the results of the two number text calls apart, see there). Any other number tells what the
- * host did; firmware needs to act on none of them.
+ *   A number from 1 to 9 is the caller's fault, and such a call changes nothing that it was lent
+ *   (the results of the two number text calls apart, see there). Any other number tells what the
+ *   host did; firmware needs to act on none of them.
+ *
+ * The way out of 2 and of 5
+ *   Once an entry of the table lies outside its range, every call that looks at the table gives 2,
+ *   and a put does not mend it. The table is firmware's own memory: it writes the bad entries
+ *   itself, each within its range (enum vb_item has them), or calls vb_start_table, which sets all
+ *   entries and so drops all settings. Settings that are read back from where they may have been
+ *   damaged are best brought within their ranges before the first call. A link state that gives 5
+ *   is set to the start by vb_start_link; what the host was about is lost, and it begins anew by
+ *   EOT.
+ *
+ * When a reply may be overwritten
+ *   A call with a reply writes it from the front of the buffer, and which call has one can't be
+ *   known beforehand. So a reply is sent to its last byte, or copied, before its buffer is lent
+ *   again, to vb_idle as well. Two lines that may answer at the same time have a buffer each. On a
+ *   half-duplex line, what is heard while a reply goes out is not handed over: an echo of an item
+ *   would end its own poll (43).
+ *
+ * Calls at the same time
+ *   Calls that are lent different memory may run at the same time. Calls that share a table, a
+ *   state or a buffer must not interrupt each other, and nothing else may write there during a
+ *   call: a vb_put in a measuring interrupt must not come in while vb_byte, vb_rtu or another
+ *   vb_put runs on that table. Either the interrupt is turned off around these calls, or it only
+ *   notes the value, and the main loop puts it between two calls.
+ *
+ * Stack
+ *   No call takes more than 400 bytes of stack on x86-64, its arguments and return address
+ *   included; docs/PERFORMANCE.md has what was measured of each function, and how. Some of them lie
+ *   below the stack pointer, in the 128 bytes there that x86-64 lets a function use (the red zone):
+ *   an interrupt that runs on the same stack must leave those alone.
  */
 #ifndef VENNEBRUIS_H
 #define VENNEBRUIS_H
 
-#include <stddef.h>
 #include <stdint.h>
 
 #ifdef __cplusplus
@@ -56,13 +87,14 @@ enum vb_number {
     VB_DOES_NOT_FIT = 8,      /* writing text: the value does not fit six characters */
     VB_TOO_MANY_DECIMALS = 9, /* number text: more than three decimals */
 
-    /* An RKC block is refused: the reply is NAK, the table stays. */
+    /* An RKC block is refused: the reply is NAK, the table stays. vb_read_text gives 15 and 16 too,
+     * for its characters; it has no reply. */
     VB_LINE_ERROR = 11,          /* a byte of the block broke the line structure */
     VB_WRONG_BCC = 12,           /* the block check character is another */
     VB_UNDER_TWO = 13,           /* fewer than two characters: no identifier */
     VB_UNKNOWN_IDENTIFIER = 14,  /* no item has this identifier */
-    VB_OVER_SIX_CHARACTERS = 15, /* more than six characters of data; also when reading text */
-    VB_NO_NUMBER = 16,           /* the data is no number; also when reading text */
+    VB_OVER_SIX_CHARACTERS = 15, /* more than six characters of data, or of text that is read */
+    VB_NO_NUMBER = 16,           /* the data, or text that is read, is no number */
     VB_READ_ONLY = 17,           /* the item can't be written by the host */
     VB_OUT_OF_RANGE = 18,        /* the value lies outside the item's range */
 
@@ -104,12 +136,32 @@ enum vb_item {
     VB_TM = 12  /* test number: 0008H, write, 0, 0 to 999, 0 */
 };
 
-/* How a character stands in the eight bits of a byte on the RKC line. */
+/* How a character stands in the eight bits of a byte on the RKC line.
+ *
+ * The UART is set to 8 data bits without parity for each of them. 7 data bits with parity are as
+ * many bits on the wire: the parity bit arrives as the top bit of the byte, and the library checks
+ * it, and makes it in replies. */
 enum vb_structure {
-    VB_TOP_BIT_ZERO = 0, /* the top bit is 0 */
-    VB_EVEN_ONES = 1,    /* the top bit makes the number of ones even */
-    VB_ODD_ONES = 2      /* the top bit makes the number of ones odd */
+    VB_TOP_BIT_ZERO = 0, /* the top bit is 0: hosts with 8N1 */
+    VB_EVEN_ONES = 1,    /* the top bit makes the number of ones even: hosts with 7E1 */
+    VB_ODD_ONES = 2      /* the top bit makes the number of ones odd: hosts with 7O1 */
 };
+
+/* A byte that breaks the structure: a line error, which is never taken for a character.
+ *
+ * The library is handed bytes only. So this one is handed over in place of each byte that the UART
+ * reports with a framing error (a break is one, with 00H, which by itself may be a good byte) or
+ * with an overrun (others are missing beside it), and once where the driver itself lost bytes. What
+ * it does:
+ *
+ *   text, BCC due   marks the block, which is then refused, whatever else it holds (11)
+ *   waiting         the reply is EOT, the link rests (43)
+ *   rest            nothing
+ *   other phases    no reply, the link rests until the next EOT
+ *
+ * What is damaged is not just left out: the BCC can't tell that two equal characters are missing.
+ */
+#define VB_DAMAGED(structure) ((uint8_t)((structure) == VB_ODD_ONES ? 0x00 : 0x80))
 
 /* The link state. Firmware keeps its 24 bytes between calls and need not look into them:
  *
@@ -138,61 +190,76 @@ enum vb_phase {
 };
 
 /* Sets each entry of the table to its item's start value. To be called once, before all else, or
- * in place of settings that were lost.
+ * in place of settings that were lost or damaged (2).
  *
  * Gives 0, or 1 where n is not VB_TABLE_ENTRIES; then the table stays. */
-uint32_t vb_start_table(int32_t *table, size_t n);
+uint32_t vb_start_table(int32_t *table, uint64_t n);
 
 /* Sets the link state to the start: phase rest, all else 0. To be called once before the first
- * byte; it may be called at any time to drop what the link is in.
+ * byte; it may be called at any time to drop what the link is in, damaged or not (5).
  *
  * Gives 0, or 5 where n is not VB_STATE_BYTES; then the state stays. */
-uint32_t vb_start_link(uint8_t *state, size_t n);
+uint32_t vb_start_link(uint8_t *state, uint64_t n);
 
-/* One byte received on the RKC line, with its parity bit as it came (structure says which one).
+/* One byte received on the RKC line, its top bit as it came; for one that the UART reports damaged,
+ * see VB_DAMAGED.
  *
  * state, sn   the link state; VB_STATE_BYTES
  * table, tn   the item values; VB_TABLE_ENTRIES
  * reply, rn   where the reply goes; VB_REPLY_BYTES or more
  * address     of this device, 0 to 99
  * structure   enum vb_structure; the reply is sent in the same one
- * now         milliseconds from any start, going round at 2^32
+ * now         when the call is made: milliseconds from any start, going round at 2^32
  * byte        what was received; also one that is not for this device
  *
- * Gives 0, 1 to 5, 11 to 18, 41, 42, 43 or 45. Where there is a reply, it is an item (11 bytes) or
- * one of ACK, NAK and EOT (1 byte). The state goes on to the next phase; the table changes in one
- * entry where a block is answered by ACK, and stays otherwise. With 1 to 5 state, table and buffer
- * stay. */
-uint32_t vb_byte(uint8_t *state, size_t sn, int32_t *table, size_t tn, uint8_t *reply, size_t rn,
-                 uint8_t address, uint8_t structure, uint32_t now, uint8_t byte);
+ * Where an item is the reply, the state keeps the now of this call; vb_byte does nothing else with
+ * it. The three seconds of vb_idle count from there, so what the reply takes on the wire is a part
+ * of them.
+ *
+ * Gives 0, 1 to 5, 11 to 18, 41, 42, 43 or 45; 46 is never met. Where there is a reply, it is an
+ * item (11 bytes) or one of ACK, NAK and EOT (1 byte). The state goes on to the next phase; the
+ * table changes in one entry where a block is answered by ACK, and stays otherwise. With 1 to 5
+ * state, table and buffer stay. */
+uint32_t vb_byte(uint8_t *state, uint64_t sn, int32_t *table, uint64_t tn, uint8_t *reply,
+                 uint64_t rn, uint8_t address, uint8_t structure, uint32_t now, uint8_t byte);
 
 /* To be called every now and then while no byte comes, so that a poll ends where the host falls
  * silent: once three seconds have gone by since the last item was sent, EOT is the reply and the
  * link rests (44). Before that, and in any other phase, it gives 0 and sends nothing; the state
  * keeps what its phase uses, and all else in it comes out as 0.
  *
+ * The time between two calls adds to the three seconds: with a call every 100 ms, EOT comes after 3
+ * to 3.1 s. Bytes that have come are handed over first, or a host that answered in time is dropped.
+ * Where it is never called, the link waits on, and takes the next byte however late it comes.
+ *
  * now counts as in vb_byte and may have gone round since. A full turn takes 49 days, and a silence
- * that long can't be told from none.
+ * that long can't be told from none. A now from before the item was sent counts as nearly a full
+ * turn later, and ends the poll at once; so both calls read one clock, each when it is made.
  *
  * Gives 0, 3, 4 (for the structure), 5 or 44. With 3 to 5 state and buffer stay. */
-uint32_t vb_idle(uint8_t *state, size_t sn, uint8_t *reply, size_t rn, uint8_t structure,
+uint32_t vb_idle(uint8_t *state, uint64_t sn, uint8_t *reply, uint64_t rn, uint8_t structure,
                  uint32_t now);
 
 /* One whole Modbus RTU frame, from address to CRC. The driver finds the silences that end a frame.
  * The frame may have any length and any contents; it is read only, and must not lie in the reply
  * buffer.
  *
+ * The UART is set to 8 data bits and the host's parity, which it makes and checks itself. Where it
+ * reports a framing error (a break is one), a parity error or an overrun for any byte, the driver
+ * drops the whole frame, up to the silence that ends it, and makes no call: the CRC tells every
+ * flip of bits that lie within 16 consecutive ones or are odd in number, but not every loss.
+ *
  * table, tn   the item values; VB_TABLE_ENTRIES
  * reply, rn   where the reply goes, its CRC included; VB_REPLY_BYTES or more
  * address     of this device, 1 to 99
  * frame, fn   what was received
  *
- * Gives 0, 1 to 4, 21 to 23 or 31 to 33. A frame that is not 8 bytes long is 33 in each function;
+ * Gives 0, 1 to 4, 21 to 23 or 31 to 33. 03H, 06H and 08H ask for a frame of 8 bytes first (33);
  * 03H then tries the quantity (33) before the registers (32), 06H the register (32) before the
  * value (33). The table changes in one entry where 06H gives 0, and stays otherwise. With 1 to 4
  * and 21 to 23 there is no reply. */
-uint32_t vb_rtu(int32_t *table, size_t tn, uint8_t *reply, size_t rn, uint8_t address,
-                const uint8_t *frame, size_t fn);
+uint32_t vb_rtu(int32_t *table, uint64_t tn, uint8_t *reply, uint64_t rn, uint8_t address,
+                const uint8_t *frame, uint64_t fn);
 
 /* Sets an item from the firmware: a measured value, an error code, a setting made at the panel.
  * Every item may be set, within its range.
@@ -201,15 +268,17 @@ uint32_t vb_rtu(int32_t *table, size_t tn, uint8_t *reply, size_t rn, uint8_t ad
  * value       the number with its point left out
  *
  * Gives 0, 1, 2, 6 or 7. With 0 the item's entry is the value and all others stay; else the table
- * stays. An entry outside its range is 2 here too, also where this very put would mend it. */
-uint32_t vb_put(int32_t *table, size_t tn, uint32_t item, int32_t value);
+ * stays. An entry outside its range is 2 here too, also where this very put would mend it; the way
+ * out stands at the top. */
+uint32_t vb_put(int32_t *table, uint64_t tn, uint32_t item, int32_t value);
 
 /* Reads number text as the RKC line does: at most six characters, a minus first if any, digits with
  * at most one point, and at least one digit. The value is the number times 10 to the decimals, cut
  * off toward zero: with 2 decimals "-.058" is -5 and "5." is 500.
  *
- * Gives 0 with the value set, or 9, 15 or 16 with the value 0. */
-uint32_t vb_read_text(uint8_t decimals, const uint8_t *chars, size_t n, int32_t *value);
+ * Gives 0 with the value set, or the first of these with the value 0: 9 where decimals is over 3,
+ * 15 where n is over six, 16 where the characters are no number, or none at all. */
+uint32_t vb_read_text(uint8_t decimals, const uint8_t *chars, uint64_t n, int32_t *value);
 
 /* Writes a value as the RKC line sends it: six characters, a minus first if it is below zero, zeros
  * on the left, a point before the last decimals: with 2 decimals -5 is "-00.05". No 0 byte is put
@@ -217,9 +286,10 @@ uint32_t vb_read_text(uint8_t decimals, const uint8_t *chars, size_t n, int32_t 
  *
  * What fits: -99999 to 999999 without decimals, -9999 to 99999 with 1 to 3.
  *
- * Gives 0, or 9 or 8 with six zero bytes in place of the text. Bytes behind the six stay. Where n
- * is under VB_TEXT_BYTES it gives 3, before 9 and 8, and writes nothing. */
-uint32_t vb_write_text(uint8_t decimals, int32_t value, uint8_t *chars, size_t n);
+ * Gives 0, or the first of these: 3 where n is under VB_TEXT_BYTES, and nothing is written; 9 where
+ * decimals is over 3, and 8 where the value does not fit, both with six zero bytes in place of the
+ * text. Bytes behind the six stay. */
+uint32_t vb_write_text(uint8_t decimals, int32_t value, uint8_t *chars, uint64_t n);
 
 #ifdef __cplusplus
 }

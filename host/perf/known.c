@@ -1,5 +1,7 @@
-/* A function whose instructions can be counted by eye, for the counting to be tried on: its three,
- * and those of two calls of ten_rounds, which has 22 each (one, ten times two, one). That is 47. */
+/* Functions on which the measuring is tried, since what they take can be told by eye. */
+
+/* Executes 47 instructions: its three, and those of two calls of ten_rounds, which has 22 each
+ * (one, ten times two, one). */
 __asm__(".text\n"
         ".globl ten_rounds, ten_rounds_twice\n"
         ".type ten_rounds, @function\n"
@@ -15,3 +17,12 @@ __asm__(".text\n"
         "    call ten_rounds\n"
         "    ret\n"
         ".size ten_rounds_twice, . - ten_rounds_twice\n");
+
+/* Takes 80 bytes of stack: the return address, and 72 below it. */
+__asm__(".text\n"
+        ".globl eighty_bytes\n"
+        ".type eighty_bytes, @function\n"
+        "eighty_bytes:\n"
+        "    movb $0, -72(%rsp)\n"
+        "    ret\n"
+        ".size eighty_bytes, . - eighty_bytes\n");

@@ -5,6 +5,8 @@
  * requests. A request is a struct request with the bytes of its four lent arrays behind it. Its
  * answer is the result, four bytes, and the four arrays as the call left them, each with a guard
  * before and behind it. A batch is answered once all of it is done. */
+#include <stddef.h>
+
 #include "vennebruis.h"
 
 /* Of the C library. Declared here, since a cross compiler may come without its headers. */
@@ -38,8 +40,8 @@ static uint32_t call(const struct request *r) {
     uint8_t *state = room[STATE] + GUARD, *reply = room[REPLY] + GUARD,
             *input = room[INPUT] + GUARD;
     int32_t *table = (int32_t *)(void *)(room[TABLE] + GUARD);
-    size_t sn = r->length[STATE], tn = r->length[TABLE] / sizeof *table;
-    size_t rn = r->length[REPLY], in = r->length[INPUT];
+    uint64_t sn = r->length[STATE], tn = r->length[TABLE] / sizeof *table;
+    uint64_t rn = r->length[REPLY], in = r->length[INPUT];
 
     switch (r->function) {
     case START_TABLE:
