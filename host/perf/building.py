@@ -1,18 +1,29 @@
-"""Builds the three programs that are measured, as x86-64 code."""
+"""Builds the programs that are measured, as x86-64 code."""
 
 import kit
 from counting import run
 
-LINK = [kit.ROOT / "host" / "perf" / name for name in ("link.c", "known.c")]
+SOURCES = kit.ROOT / "host" / "perf"
+LINK = [SOURCES / "link.c", SOURCES / "known.c"]
 LIBRARY = kit.ROOT / "target" / "staticlib" / "libpanel.a"
 REFERENCE = kit.TARGET / "libreference.rlib"
 
 
+def linked(name, *sources):
+    """A program of C sources and the library."""
+    program = kit.TARGET / name
+    run([kit.ROOT / "host" / "build" / "program", program, *sources])
+    return program
+
+
 def library():
     """The program over the library."""
-    program = kit.TARGET / "library"
-    run([kit.ROOT / "host" / "build" / "program", program, *LINK])
-    return [program]
+    return [linked("library", *LINK)]
+
+
+def stack():
+    """The program that tells what stack the library takes."""
+    return linked("stack", SOURCES / "stack.c", SOURCES / "known.c")
 
 
 def reference():
@@ -25,7 +36,7 @@ def reference():
     )
     run(
         [*words, "--crate-type", "staticlib", "--crate-name", "face", "-o", face]
-        + ["--extern", f"reference={REFERENCE}", kit.ROOT / "host" / "perf" / "reference.rs"]
+        + ["--extern", f"reference={REFERENCE}", SOURCES / "reference.rs"]
     )
     objects = [kit.TARGET / f"library.{source.stem}.o" for source in LINK]
     run(
@@ -37,6 +48,4 @@ def reference():
 
 def libmodbus():
     """The program over libmodbus."""
-    program = kit.TARGET / "libmodbus"
-    run([kit.ROOT / "host" / "build" / "program", program, kit.ROOT / "host/perf/libmodbus.c"])
-    return [program, kit.libmodbus()]
+    return [linked("libmodbus", SOURCES / "libmodbus.c"), kit.libmodbus()]

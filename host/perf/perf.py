@@ -1,4 +1,4 @@
-"""Instructions and bytes of code: the library, libmodbus and the reference side by side.
+"""Instructions and bytes: the library, libmodbus and the reference side by side.
 
 Prints a table, or says what is missing on this machine (status 2)."""
 
@@ -31,6 +31,7 @@ ROWS = {
     "session": "RKC: one after the other, per byte",
     "code": "code, bytes",
     "constants": "constants, bytes",
+    "stack": "stack of the deepest call, bytes",
 }
 
 
@@ -102,6 +103,8 @@ def main():
         raise SystemExit(f"perf: {known} instructions counted where {KNOWN} are executed")
 
     library, gave = link(program, building.LIBRARY)
+    stack = sizes.stack(building.stack())
+    library["stack"] = max(stack.values())
     reference, gave_same = link(building.reference(), building.REFERENCE)
     other, gave_some = libmodbus(building.libmodbus())
     if not gave == gave_same == gave | gave_some:
@@ -110,6 +113,7 @@ def main():
     print("\n".join(table(library, {"libmodbus": other, "reference": reference})))
     reply = sizes.function(kit.libmodbus(), "modbus_reply")
     print(f"\nOf libmodbus's code, which is all of it, modbus_reply alone has {reply} bytes.")
+    print(f"Stack by function: {', '.join(f'{name} {n}' for name, n in stack.items())}.")
 
 
 main()

@@ -1,8 +1,13 @@
-"""Bytes of code and constants, as the sections and symbols of x86-64 objects give them."""
+"""Bytes of code and constants, as the sections and symbols of x86-64 objects give them, and bytes of
+stack, as a program tells that has measured them."""
 
 import re
 
+import kit
 from counting import run
+
+# What eighty_bytes takes.
+KNOWN_STACK = 80
 
 
 def sections(file, name):
@@ -22,3 +27,13 @@ def function(file, name):
     """The bytes of one function that a shared library exports."""
     listed = run(["readelf", "--wide", "--dyn-syms", file])
     return int(re.search(rf": \S+ +(\d+) FUNC .* {name}$", listed, re.MULTILINE)[1])
+
+
+def stack(program):
+    """The bytes of stack that each function of the link takes."""
+    printed = run([kit.ROOT / "host" / "build" / "run", program])
+    figures = {name: int(n) for name, n in re.findall(r"^stack (\w+) (\d+)$", printed, re.MULTILINE)}
+    known = figures.pop("eighty_bytes")
+    if known != KNOWN_STACK:
+        raise SystemExit(f"perf: {known} bytes of stack measured where {KNOWN_STACK} are taken")
+    return figures
