@@ -1,5 +1,5 @@
-"""Bytes of code and constants, as the sections and symbols of x86-64 objects give them, and bytes of
-stack, as a program tells that has measured them."""
+"""Bytes of code and constants, as the sections and symbols of x86-64 objects give them, and bytes
+of stack, as a program tells that has measured them."""
 
 import re
 
@@ -8,6 +8,9 @@ from counting import run
 
 # What eighty_bytes takes.
 KNOWN_STACK = 80
+
+# What no call takes more of, as host/include/vennebruis.h says.
+MOST_STACK = 400
 
 
 def sections(file, name):
@@ -32,8 +35,11 @@ def function(file, name):
 def stack(program):
     """The bytes of stack that each function of the link takes."""
     printed = run([kit.ROOT / "host" / "build" / "run", program])
-    figures = {name: int(n) for name, n in re.findall(r"^stack (\w+) (\d+)$", printed, re.MULTILINE)}
+    lines = re.findall(r"^stack (\w+) (\d+)$", printed, re.MULTILINE)
+    figures = {name: int(taken) for name, taken in lines}
     known = figures.pop("eighty_bytes")
     if known != KNOWN_STACK:
         raise SystemExit(f"perf: {known} bytes of stack measured where {KNOWN_STACK} are taken")
+    if max(figures.values()) > MOST_STACK:
+        raise SystemExit(f"perf: more stack than the header's {MOST_STACK} bytes: {figures}")
     return figures
