@@ -1,18 +1,15 @@
--- Two outcomes that meet a public function's promise are the same outcome.
+-- Each public function of this crate promises one outcome.
 -- Assumes nothing.
-use mathlib.Core.Path.{_≡_}
-use mathlib.Core.Bool.{Bool}
-use mathlib.Core.List.{List}
-use Prim.Native.Nat.{ℕ}
-use Rattle.numbers.proofs.Single.{single}
-use Rattle.crc.specs.Crc.{crc16Of, isRight, Seals}
+use mathlib.Core.Path.{refl}
+use Rattle.numbers.specs.Promise.{OneOutcome}
+use Rattle.numbers.proofs.Single.{single, _&_}
+use Rattle.crc.proofs as crc
 
-pub crc16-single : (bytes : List ℕ) {r s : ℕ} → r ≡ crc16Of bytes → s ≡ crc16Of bytes → r ≡ s
-crc16-single bytes = single
+pub crc16 : OneOutcome crc.crc16.ended crc.crc16.Reads.Asked crc.crc16.Reads.Post
+crc16 = record { asksNothing = λ κs a. tt; single = λ κs a o u p q. single p q & refl }
 
-pub is-right-single : (frame : List ℕ) {r s : Bool} → r ≡ isRight frame → s ≡ isRight frame → r ≡ s
-is-right-single frame = single
+pub is-right : OneOutcome crc.is_right.ended crc.is_right.Reads.Asked crc.is_right.Reads.Post
+is-right = record { asksNothing = λ κs a. tt; single = λ κs a o u p q. single p q & refl }
 
-pub seal-single : (before : List ℕ) (n : ℕ) {after other : List ℕ} {r s : ℕ} → Seals before n after r → Seals before n other s
-    → (after ≡ other) × (r ≡ s)
-seal-single before n p q = (single (p .buffer) (q .buffer), single (p .handed) (q .handed))
+pub seal : OneOutcome crc.seal.ended crc.seal.Reads.Asked crc.seal.Reads.Post
+seal = record { asksNothing = λ κs a. tt; single = λ κs a o u p q. single (p .handed) (q .handed) & single (p .buffer) (q .buffer) & refl }

@@ -1,28 +1,24 @@
--- Two answers that meet one promise of this crate are the same answer: each promise is an equation.
+-- Each public function of this crate promises one outcome.
 -- Assumes nothing.
-use mathlib.Core.Path.{_≡_}
-use mathlib.Core.Bool.{Bool}
-use mathlib.Core.List.{List}
-use Prim.Native.Nat.{ℕ}
-use lib.IntN.{ℤ}
-use Rattle.numbers.proofs.Single.{single}
-use Rattle.items.specs.declared.Found.{Found}
-use Rattle.items.specs.ItemList.{itemAt, identifierOf, inRange, found, foundByRegister}
+use mathlib.Core.Path.{refl}
+use Rattle.numbers.specs.Promise.{OneOutcome}
+use Rattle.numbers.proofs.Single.{single, _&_}
+use Rattle.items.proofs as items
 
-pub in-range-single : (i : ℕ) (v : ℤ) {r s : Bool} → r ≡ inRange i v → s ≡ inRange i v → r ≡ s
-in-range-single i v = single
+pub identifier : OneOutcome items.identifier.ended items.identifier.Reads.Asked items.identifier.Reads.Post
+identifier = record { asksNothing = λ κs a. tt; single = λ κs a o u p q. single p q & refl }
 
-pub identifier-single : (i : ℕ) {r s : List ℕ} → r ≡ identifierOf (itemAt i) → s ≡ identifierOf (itemAt i) → r ≡ s
-identifier-single i = single
+pub writable : OneOutcome items.writable.ended items.writable.Reads.Asked items.writable.Reads.Post
+writable = record { asksNothing = λ κs a. tt; single = λ κs a o u p q. single p q & refl }
 
-pub writable-single : (i : ℕ) {r s : Bool} → r ≡ itemAt i .writable → s ≡ itemAt i .writable → r ≡ s
-writable-single i = single
+pub decimals : OneOutcome items.decimals.ended items.decimals.Reads.Asked items.decimals.Reads.Post
+decimals = record { asksNothing = λ κs a. tt; single = λ κs a o u p q. single p q & refl }
 
-pub decimals-single : (i : ℕ) {r s : ℕ} → r ≡ itemAt i .decimals → s ≡ itemAt i .decimals → r ≡ s
-decimals-single i = single
+pub find : OneOutcome items.find.ended items.find.Reads.Asked items.find.Reads.Post
+find = record { asksNothing = λ κs a. tt; single = λ κs a o u p q. single p q & refl }
 
-pub find-single : (a b : ℕ) {r s : Found} → r ≡ found a b → s ≡ found a b → r ≡ s
-find-single a b = single
+pub find-register : OneOutcome items.find_register.ended items.find_register.Reads.Asked items.find_register.Reads.Post
+find-register = record { asksNothing = λ κs a. tt; single = λ κs a o u p q. single p q & refl }
 
-pub find-register-single : (n : ℕ) {r s : Found} → r ≡ foundByRegister n → s ≡ foundByRegister n → r ≡ s
-find-register-single n = single
+pub in-range : OneOutcome items.in_range.ended items.in_range.Reads.Asked items.in_range.Reads.Post
+in-range = record { asksNothing = λ κs a. tt; single = λ κs a o u p q. single p q & refl }

@@ -1,24 +1,21 @@
--- Two answers that meet one promise of this crate are the same answer: each promise is an equation. The law for that is passed on
--- to the crates above.
+-- Each public function of this crate promises one outcome.
 -- Assumes nothing.
-use mathlib.Core.Path.{_≡_}
-use mathlib.Core.Bool.{Bool}
-use mathlib.Core.List.{List}
-use Prim.Native.Nat.{ℕ}
-pub use Rattle.numbers.proofs.Single.{single}
-use Rattle.line.specs.Line.{lowSeven, keeps, heard, sent, bcc}
+use mathlib.Core.Path.{refl}
+use Rattle.numbers.specs.Promise.{OneOutcome}
+use Rattle.numbers.proofs.Single.{single, _&_}
+use Rattle.line.proofs as line
 
-pub low-seven-single : (c : ℕ) {r s : ℕ} → r ≡ lowSeven c → s ≡ lowSeven c → r ≡ s
-low-seven-single c = single
+pub low-seven : OneOutcome line.low_seven.ended line.low_seven.Reads.Asked line.low_seven.Reads.Post
+low-seven = record { asksNothing = λ κs a. tt; single = λ κs a o u p q. single p q & refl }
 
-pub keeps-single : (structure byte : ℕ) {r s : Bool} → r ≡ keeps structure byte → s ≡ keeps structure byte → r ≡ s
-keeps-single structure byte = single
+pub keeps : OneOutcome line.keeps.ended line.keeps.Reads.Asked line.keeps.Reads.Post
+keeps = record { asksNothing = λ κs a. tt; single = λ κs a o u p q. single p q & refl }
 
-pub heard-single : (structure byte : ℕ) {r s : ℕ} → r ≡ heard structure byte → s ≡ heard structure byte → r ≡ s
-heard-single structure byte = single
+pub heard : OneOutcome line.heard.ended line.heard.Reads.Asked line.heard.Reads.Post
+heard = record { asksNothing = λ κs a. tt; single = λ κs a o u p q. single p q & refl }
 
-pub sent-single : (structure c : ℕ) {r s : ℕ} → r ≡ sent structure c → s ≡ sent structure c → r ≡ s
-sent-single structure c = single
+pub sent : OneOutcome line.sent.ended line.sent.Reads.Asked line.sent.Reads.Post
+sent = record { asksNothing = λ κs a. tt; single = λ κs a o u p q. single p q & refl }
 
-pub bcc-single : (chars : List ℕ) {r s : ℕ} → r ≡ bcc chars → s ≡ bcc chars → r ≡ s
-bcc-single chars = single
+pub bcc : OneOutcome line.bcc.ended line.bcc.Reads.Asked line.bcc.Reads.Post
+bcc = record { asksNothing = λ κs a. tt; single = λ κs a o u p q. single p q & refl }

@@ -8,7 +8,7 @@ use lib.ListN.{length}
 use Rattle.numbers.specs.Promise.{Lent}
 use Rattle.numbers.proofs.Single.{single}
 use Rattle.table.specs.Table.{startNumber, startTable, putNumber, putTable}
-use Rattle.table.proofs.Single.{lent-single}
+use Rattle.numbers.proofs.Single.{lent-single}
 use Rattle.text.specs.Numbers.{width}
 use Rattle.text.specs.Reading.{reading}
 use Rattle.rkc.specs.Outcome.{Step, received, idled}

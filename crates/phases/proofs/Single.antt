@@ -1,11 +1,9 @@
--- Two acts that meet the promise of `decide` are the same act: the promise is an equation.
+-- Each public function of this crate promises one outcome.
 -- Assumes nothing.
-use mathlib.Core.Path.{_≡_}
-use Prim.Native.Nat.{ℕ}
-use Rattle.line.proofs.Single.{single}
-use Rattle.phases.specs.Decision.{decided}
-use Rattle.phases.specs.declared.Act.{Act}
+use mathlib.Core.Path.{refl}
+use Rattle.numbers.specs.Promise.{OneOutcome}
+use Rattle.numbers.proofs.Single.{single, _&_}
+use Rattle.phases.proofs as phases
 
-pub decide-single : (phase first second item address c : ℕ) {r s : Act} → r ≡ decided phase first second item address c
-    → s ≡ decided phase first second item address c → r ≡ s
-decide-single phase first second item address c = single
+pub decide : OneOutcome phases.decide.ended phases.decide.Reads.Asked phases.decide.Reads.Post
+decide = record { asksNothing = λ κs a. tt; single = λ κs a o u p q. single p q & refl }
