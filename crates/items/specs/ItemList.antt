@@ -2,7 +2,7 @@
 use Prim.Native.Nat.{ℕ, suc}
 use mathlib.Core.Bool.{Bool, true, false, cond, _&&_}
 use mathlib.Core.List.{List, [], _∷_}
-use lib.Dec.{eqb}
+use lib.Dec.{eqb, leb}
 use lib.IntN.{ℤ, pos}
 use lib.ListN.{getD}
 use lib.Signed.{leZ}
@@ -53,6 +53,10 @@ itemList =
 -- how many items there are
 abbrev pub items : ℕ
 items = 12
+
+-- an item has this number, counted from 1
+abbrev pub listed : ℕ → Bool
+listed number = leb 1 number && leb number items
 
 -- the map is 0000H to 0012H
 abbrev pub mapSize : ℕ

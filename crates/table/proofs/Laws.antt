@@ -12,25 +12,23 @@ use lib.IntN.{ℤ, pos, negsuc}
 use lib.ListN.{getD, set, length, length-set}
 use lib.Seq.{getD-set-other}
 use lib.Signed.{leZ}
-use Rattle.numbers.specs.Numbers.{none}
+use Rattle.numbers.specs.Numbers.{none, unless}
 use Rattle.numbers.specs.Promise.{Lent}
-use Rattle.numbers.proofs.Tests.{contrary}
-use Rattle.numbers.proofs.Tests.{both}
-use Rattle.items.specs.ItemList.{Item, items, itemList, noItem, itemAt, fromLowToHigh, inRange}
-use Rattle.table.specs.Table.{allInRange, tableFault, goodTable, startValues, entry, M1, AA, AB, A1, A2, alarm, answered, stored, noSuchItem, valueOutside, putNumber, putTable}
+use Rattle.numbers.proofs.Tests.{contrary, both, chosen}
+use Rattle.numbers.proofs.Order.{none-met, test-held}
+use Rattle.items.specs.ItemList.{Item, items, listed, itemList, noItem, itemAt, fromLowToHigh, inRange}
+use Rattle.table.specs.Table.{wrongLength, entryOutside, allInRange, tableFault, goodTable, startValues, entry, M1, AA, AB, A1, A2, alarm, answered, stored, noSuchItem, valueOutside, putNumber, putTable}
 
 -- ---- a good table
 
 -- what a good table is: twelve entries, each in its range
 good-parts : (t : List ℤ) → goodTable t ≡ true → (length t ≡ items) × (allInRange itemList t ≡ true)
 unfolding tableFault
-good-parts t g = by (eqb (length t) items) (allInRange itemList t) refl refl (eqb-true _ _ g)
-  where
-    by : (a b : Bool) → eqb (length t) items ≡ a → allInRange itemList t ≡ b → _≡_ {A = ℕ} (cond a (cond b 0 2) 1) 0
-        → (length t ≡ items) × (allInRange itemList t ≡ true)
-    by true true p q e = (eqb-true _ _ p, q)
-    by true false p q e = absurd (let z : _≡_ {A = ℕ} 2 0 = e in omega arith)
-    by false b p q e = absurd (let z : _≡_ {A = ℕ} 1 0 = e in omega arith)
+good-parts t g =
+    let long = unless (eqb (length t) items) wrongLength in
+    let inside = unless (allInRange itemList t) entryOutside in
+    let all = none-met long (inside ∷ []) (eqb-true (tableFault t) none g) in
+    (eqb-true _ _ (test-held _ wrongLength (omega arith) (all .0)), test-held _ entryOutside (omega arith) (none-met inside [] (all .1) .0))
 
 good-from : (t : List ℤ) → length t ≡ items → allInRange itemList t ≡ true → goodTable t ≡ true
 unfolding tableFault
@@ -99,27 +97,26 @@ alarm-entry-zero t g = (zero-only _ (good-entry t AA g (omega arith)), zero-only
 
 -- ---- the firmware's put
 
+-- the four ways in which a put ends, by the table's fault as `check` gives it
+module _ (t : List ℤ) (n : ℕ) (v : ℤ) {f : ℕ} (checked : f ≡ tableFault t) where
+  pub put-fault : (f ≡ none → ⊥) → putNumber t n v ≡ f
+  unfolding putNumber
+  put-fault met = simp (ne-eqb (tableFault t) none (λ z. met (checked ∙ z))) (sym checked)
+
+  module _ (fine : f ≡ none) where
+    pub put-no-item : listed n ≡ false → putNumber t n v ≡ noSuchItem
+    unfolding putNumber
+    put-no-item other = simp (eq-eqb (tableFault t) none (sym checked ∙ fine), other)
+
+    pub put-outside : listed n ≡ true → inRange (n - 1) v ≡ false → putNumber t n v ≡ valueOutside
+    unfolding putNumber
+    put-outside item outside = simp (eq-eqb (tableFault t) none (sym checked ∙ fine), item, outside)
+
+    pub put-inside : listed n ≡ true → inRange (n - 1) v ≡ true → putNumber t n v ≡ none
+    unfolding putNumber
+    put-inside item inside = simp (eq-eqb (tableFault t) none (sym checked ∙ fine), item, inside)
+
 module _ (t : List ℤ) (n : ℕ) (v : ℤ) where
-  -- the table's fault; no such item; a value outside; none
-  pub put-fault : {f : ℕ} → f ≡ tableFault t → (f ≡ none → ⊥) → putNumber t n v ≡ f
-  unfolding putNumber
-  put-fault e h = simp (ne-eqb (tableFault t) none (λ z. h (e ∙ z))) (sym e)
-
-  put-checked : {f : ℕ} → f ≡ tableFault t → f ≡ none
-      → putNumber t n v ≡ cond (leb 1 n && leb n items) (cond (inRange (n - 1) v) none valueOutside) noSuchItem
-  unfolding putNumber
-  put-checked e z = simp (eq-eqb (tableFault t) none (sym e ∙ z))
-
-  pub put-below : {f : ℕ} → f ≡ tableFault t → f ≡ none → n < 1 → putNumber t n v ≡ noSuchItem
-  put-below e z h = put-checked e z ∙ simp (lt-leb 1 n h)
-
-  pub put-above : {f : ℕ} → f ≡ tableFault t → f ≡ none → items < n → putNumber t n v ≡ noSuchItem
-  put-above e z h = put-checked e z ∙ simp (le-leb 1 n (omega arith), lt-leb n items h)
-
-  pub put-ranged : {f : ℕ} {b : Bool} → f ≡ tableFault t → f ≡ none → 1 ≤ n → n ≤ items → b ≡ inRange (n - 1) v
-      → putNumber t n v ≡ cond b none valueOutside
-  put-ranged e z l h r = put-checked e z ∙ simp (le-leb 1 n l, le-leb n items h, ← r)
-
   -- a refused put leaves the table as it came; an accepted one stores
   pub put-refused : {k : ℕ} → putNumber t n v ≡ k → (k ≡ none → ⊥) → Lent (putNumber t n v) (putTable t n v) k t
   unfolding putTable
@@ -129,16 +126,23 @@ module _ (t : List ℤ) (n : ℕ) (v : ℤ) where
   unfolding putTable
   put-accepted e = record { given = sym e; left = simp (eq-eqb (putNumber t n v) none e) }
 
+  -- a put that meets no number has a value in range
+  accepted-in-range : putNumber t n v ≡ none → inRange (n - 1) v ≡ true
+  unfolding putNumber
+  accepted-in-range e =
+      let item = unless (listed n) noSuchItem in
+      let value = unless (inRange (n - 1) v) valueOutside in
+      let after-fault = none-met (tableFault t) (item ∷ value ∷ []) e .1 in
+      let after-item = none-met item (value ∷ []) after-fault .1 in
+      test-held _ valueOutside (omega arith) (none-met value [] after-item .0)
+
 -- a good table stays good after put
 pub good-put : (t : List ℤ) (n : ℕ) (v : ℤ) → goodTable t ≡ true → goodTable (putTable t n v) ≡ true
-unfolding putTable putNumber
-good-put t n v g = rw g (by (leb 1 n && leb n items) (inRange (n - 1) v) refl)
-  where
-    by : (a b : Bool) → inRange (n - 1) v ≡ b
-        → goodTable (cond (eqb (cond a (cond b none valueOutside) noSuchItem) none) (stored t (n - 1) v) t) ≡ true
-    by true true r = good-stored t (n - 1) v g r
-    by true false r = g
-    by false b r = g
+unfolding putTable
+good-put t n v g =
+    chosen (λ (s : List ℤ). goodTable s ≡ true) (eqb (putNumber t n v) none)
+    (λ e. good-stored t (n - 1) v g (accepted-in-range t n v (eqb-true _ _ e)))
+    (λ _. g)
 
 -- ---- the alarm states
 

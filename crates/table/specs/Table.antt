@@ -2,12 +2,12 @@
 use Prim.Native.Nat.{ℕ, _-_}
 use mathlib.Core.Bool.{Bool, true, cond, _&&_}
 use mathlib.Core.List.{List, [], _∷_, map}
-use lib.Dec.{eqb, leb}
+use lib.Dec.{eqb}
 use lib.IntN.{ℤ, pos}
 use lib.ListN.{getD, set, length}
 use lib.Signed.{leZ}
-use Rattle.numbers.specs.Numbers.{none}
-use Rattle.items.specs.ItemList.{Item, items, itemList, fromLowToHigh, inRange}
+use Rattle.numbers.specs.Numbers.{none, unless, firstMet, unlessMet}
+use Rattle.items.specs.ItemList.{Item, items, listed, itemList, fromLowToHigh, inRange}
 
 -- the numbers given back here
 abbrev pub wrongLength : ℕ
@@ -28,9 +28,9 @@ allInRange [] vs = true
 allInRange (x ∷ xs) [] = true
 allInRange (x ∷ xs) (v ∷ vs) = fromLowToHigh x v && allInRange xs vs
 
--- the table's fault, the first that it meets
+-- the table's fault: it has an entry for each item, and each is in its range
 unfoldable pub tableFault : List ℤ → ℕ
-tableFault t = cond (eqb (length t) items) (cond (allInRange itemList t) none entryOutside) wrongLength
+tableFault t = firstMet (unless (eqb (length t) items) wrongLength ∷ unless (allInRange itemList t) entryOutside ∷ [])
 
 -- a table that has no fault
 abbrev pub goodTable : List ℤ → Bool
@@ -41,10 +41,10 @@ unfoldable pub startValues : List ℤ
 startValues = map (λ (x : Item). x .start) itemList
 
 unfoldable pub startNumber : List ℤ → ℕ
-startNumber t = cond (eqb (length t) items) none wrongLength
+startNumber t = unless (eqb (length t) items) wrongLength
 
 unfoldable pub startTable : List ℤ → List ℤ
-startTable t = cond (eqb (length t) items) startValues t
+startTable t = unlessMet (startNumber t) (λ number. t) startValues
 
 -- what stands at a place of the table, 0 past its end
 abbrev pub entry : List ℤ → ℕ → ℤ
@@ -78,13 +78,10 @@ answered t i = cond (eqb i AA) (alarm t A1) (cond (eqb i AB) (alarm t A2) (entry
 unfoldable pub stored : List ℤ → ℕ → ℤ → List ℤ
 stored t i v = set t i v
 
--- the firmware's put, of an item by its number from 1: the table's fault, no such item, a value outside its range
+-- the firmware's put, of an item by its number from 1: the table has no fault, there is such an item, the value is in its range
 unfoldable pub putNumber : List ℤ → ℕ → ℤ → ℕ
-putNumber t n v =
-    cond (goodTable t)
-    (cond (leb 1 n && leb n items) (cond (inRange (n - 1) v) none valueOutside) noSuchItem)
-    (tableFault t)
+putNumber t n v = firstMet (tableFault t ∷ unless (listed n) noSuchItem ∷ unless (inRange (n - 1) v) valueOutside ∷ [])
 
--- it stores the value where it meets no fault, and else leaves the table
+-- it stores the value where no number is met, and else leaves the table
 unfoldable pub putTable : List ℤ → ℕ → ℤ → List ℤ
-putTable t n v = cond (eqb (putNumber t n v) none) (stored t (n - 1) v) t
+putTable t n v = unlessMet (putNumber t n v) (λ number. t) (stored t (n - 1) v)

@@ -3,6 +3,7 @@
 ghost use mathlib.Core.Path.{_≡_};
 ghost use Rattle.numbers.specs.Promise.{Lent};
 ghost use Rattle.table.specs.Table.{tableFault, startNumber, startTable, entry, alarm, answered, stored, putNumber, putTable};
+use numbers::NONE;
 
 // The places of the alarm states, AA and AB, and of the items that they are worked out from.
 const M1: usize = 0;
@@ -24,7 +25,7 @@ pub const NO_SUCH_ITEM: u8 = 6;
 
 pub const VALUE_OUTSIDE: u8 = 7;
 
-// The table's fault: WRONG_LENGTH, ENTRY_OUTSIDE, or 0 for none.
+// The table's fault: WRONG_LENGTH, ENTRY_OUTSIDE, or NONE.
 pub fn check(table: &[i32]) -> u8
     ensures { λ r. ⌜ r ≡ tableFault (now (table .entry)) ⌝ }
 {
@@ -41,7 +42,7 @@ pub fn check(table: &[i32]) -> u8
         inside = inside & (lows[i] <= value) & (value <= highs[i]);
         i += 1;
     }
-    if inside { 0 } else { ENTRY_OUTSIDE }
+    if inside { NONE } else { ENTRY_OUTSIDE }
 }
 
 // Every item takes its start value.
@@ -57,7 +58,7 @@ pub fn start(table: &mut [i32]) -> u8
         table[i] = first;
         i += 1;
     }
-    0
+    NONE
 }
 
 // What stands at a place of the table, 0 past its end.
@@ -104,19 +105,17 @@ pub fn put(table: &mut [i32], number: u32, value: i32) -> u8
     ensures { λ r. ⌜ Lent (putNumber (now (table .entry)) number value) (putTable (now (table .entry)) number value) r (now (table .exit)) ⌝ }
 {
     let fault = check(&table[..]);
-    if fault != 0 {
+    if fault != NONE {
         return fault;
     }
-    match number {
-        1..=12 => {
-            let i = (number - 1) as usize;
-            if items::in_range(i, value) {
-                store(table, i, value);
-                0
-            } else {
-                VALUE_OUTSIDE
-            }
-        }
-        _ => NO_SUCH_ITEM,
+    if number == 0 || items::ITEMS < number as usize {
+        return NO_SUCH_ITEM;
+    }
+    let i = number as usize - 1;
+    if items::in_range(i, value) {
+        store(table, i, value);
+        NONE
+    } else {
+        VALUE_OUTSIDE
     }
 }

@@ -1,14 +1,15 @@
--- `table::put` meets its contract: each way out is one of the cases of `putNumber`. Assumes nothing.
+-- `table::put` meets its contract: each way out is one of the four in which a put ends. Assumes nothing.
 use borrow.Author.Needs.{needs}
-use mathlib.Core.Path.{_≡_, ap, _∙_}
-use mathlib.Core.Bool.{Bool, cond}
+use borrow.Author.Tests.{le-leb, lt-leb, ltb-true, ltb-false}
+use mathlib.Core.Path.{_≡_, sym, ap, _∙_}
+use mathlib.Core.Bool.{true, false}
+use mathlib.Core.Logic.{⊎-elim}
 use native.Mathlib.Omega.{arith}
-use Prim.Native.Nat.{_-_}
-use Rattle.numbers.specs.Numbers.{none}
+use Prim.Native.Nat.{ℕ, _-_, _<_}
 use Rattle.sign.proofs.Laws.{same}
-use Rattle.items.specs.ItemList.{inRange}
-use Rattle.table.specs.Table.{valueOutside, stored, putNumber}
-use Rattle.table.proofs.Laws.{put-fault, put-below, put-above, put-ranged, put-refused, put-accepted}
+use Rattle.items.specs.ItemList.{items, listed, inRange}
+use Rattle.table.specs.Table.{stored}
+use Rattle.table.proofs.Laws.{put-fault, put-no-item, put-outside, put-inside, put-refused, put-accepted}
 use Rattle.table.proofs.put.Statement.{statement}
 use Rattle.table.proofs.put.Tie as tie
 
@@ -21,58 +22,67 @@ same-length c = search needs
 returns : tie.Need-returns
 returns c = put-refused _ _ _ (put-fault _ _ _ (c .before .check .ensures) (c .if1 .taken)) (c .if1 .taken)
 
-cast-i : tie.Need-cast-i
-cast-i c = search needs
+same-length-2 : tie.Need-same-length-2
+same-length-2 c = search needs
+
+-- no item has the number 0, or one above the last item's
+below : (n : ℕ) → n ≡ 0 → listed n ≡ false
+below n e = rw e
+
+above : (n : ℕ) → items < n → listed n ≡ false
+above n h = simp (le-leb 1 n (omega arith), lt-leb n items h)
+
+returns-2 : tie.Need-returns-2
+returns-2 c =
+    let n = c .before .before .before .before .args .number in
+    let other = ⊎-elim (λ w. below n (w .taken)) (λ w. above n (ltb-true items n (w .1 .taken))) (c .if2 .came) in
+    put-refused _ _ _ (put-no-item _ _ _ (c .before .before .check .ensures) (c .before .if1 .left) other) (λ z. omega arith)
+
+sub-i : tie.Need-sub-i
+sub-i c = search needs
 
 in-range-requires : tie.Need-in-range-requires
 in-range-requires c κs = search needs
 
--- the range test, of the value that the argument stands for
+-- what is known once the range was tested: the number is an item's, and the test is of the value that the argument stands for
+item : (c : tie.Else3) → listed (c .before .before .before .before .before .args .number) ≡ true
+item c =
+    let n = c .before .before .before .before .before .args .number in
+    let some = c .before .if2 .left in
+    simp (le-leb 1 n (omega arith), le-leb n items (ltb-false items n (c .if3 .left)))
+
 ranged : (c : tie.After-in-range) →
     let s = c .before .before .before .before .before .before in
-    c .in-range .result ≡ inRange (s .args .number - 1) (s .args .value)
+    inRange (s .args .number - 1) (s .args .value) ≡ c .in-range .result
 ranged c =
     let s = c .before .before .before .before .before .before in
-    c .in-range .ensures ∙ ap (inRange (s .args .number - 1)) (same (s .args .value) (s .fits .value .sfits))
-
--- what `putNumber` gives after the range test
-number : (c : tie.After-in-range) →
-    let s = c .before .before .before .before .before .before in
-    putNumber (s .args .table .now) (s .args .number) (s .args .value) ≡ cond (c .in-range .result) none valueOutside
-number c =
-    put-ranged _ _ _ (c .before .before .before .before .check .ensures) (c .before .before .before .if1 .left) (omega arith) (omega arith) (ranged c)
+    sym (c .in-range .ensures ∙ ap (inRange (s .args .number - 1)) (same (s .args .value) (s .fits .value .sfits)))
 
 store-requires : tie.Need-store-requires
 store-requires c κs = search needs
-
-same-length-2 : tie.Need-same-length-2
-same-length-2 c = search needs
-
-returns-2 : tie.Need-returns-2
-returns-2 c =
-    let s = c .before .before .before .before .before .before .before .before .before .before in
-    let accepted = number (c .before .before .before .before) ∙ ap (λ (b : Bool). cond b none valueOutside) (c .before .before .before .if4 .taken) in
-    let after = c .before .store .ensures ∙ ap (stored (s .args .table .now) (s .args .number - 1)) (same (s .args .value) (s .fits .value .sfits)) in
-    rw after (put-accepted _ _ _ accepted)
 
 same-length-3 : tie.Need-same-length-3
 same-length-3 c = search needs
 
 returns-3 : tie.Need-returns-3
 returns-3 c =
-    put-refused _ _ _ (number (c .before) ∙ ap (λ (b : Bool). cond b none valueOutside) (c .if4 .left)) (λ z. omega arith)
+    let r = c .before .before .before .before in
+    let fine = r .before .before .before in
+    let s = fine .before .before .before in
+    let inside = ranged r ∙ c .before .before .before .if4 .taken in
+    let accepted = put-inside _ _ _ (fine .before .check .ensures) (fine .if1 .left) (item (r .before)) inside in
+    let after = c .before .store .ensures ∙ ap (stored (s .args .table .now) (s .args .number - 1)) (same (s .args .value) (s .fits .value .sfits)) in
+    rw after (put-accepted _ _ _ accepted)
 
 same-length-4 : tie.Need-same-length-4
 same-length-4 c = search needs
 
 returns-4 : tie.Need-returns-4
-returns-4 c = put-refused _ _ _ (put-below _ _ _ (c .before .before .check .ensures) (c .before .if1 .left) (c .if2 .taken)) (λ z. omega arith)
-
-same-length-5 : tie.Need-same-length-5
-same-length-5 c = search needs
-
-returns-5 : tie.Need-returns-5
-returns-5 c = put-refused _ _ _ (put-above _ _ _ (c .before .before .before .check .ensures) (c .before .before .if1 .left) (c .if3 .left)) (λ z. omega arith)
+returns-4 c =
+    let r = c .before in
+    let fine = r .before .before .before in
+    let outside = ranged r ∙ c .if4 .left in
+    put-refused _ _ _ (put-outside _ _ _ (fine .before .check .ensures) (fine .if1 .left) (item (r .before)) outside) (λ z. omega arith)
 
 pub put-spec : {M : Type 1} → statement M
 put-spec =
@@ -81,14 +91,12 @@ put-spec =
     check-requires
     same-length
     returns
-    cast-i
-    in-range-requires
-    store-requires
     same-length-2
     returns-2
+    sub-i
+    in-range-requires
+    store-requires
     same-length-3
     returns-3
     same-length-4
-    returns-4
-    same-length-5
-    returns-5)
+    returns-4)
