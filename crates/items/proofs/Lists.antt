@@ -8,8 +8,8 @@ use Prim.Native.Nat.{ℕ, zero, suc, _+_, _^_, _<_, _≤_}
 use native.Mathlib.Nat.{not-suc-le-zero, le-of-suc-le-suc}
 use native.Mathlib.Numerals.{add-one}
 use native.Mathlib.Omega.{arith}
-use borrow.Author.Tests.{eqb-true, eqb-false}
-use lib.Dec.{eqb}
+use borrow.Author.Tests.{eqb-true, eqb-false, ltb-true}
+use lib.Dec.{eqb, ltb}
 use lib.IntN.{ℤ, pos}
 use lib.ListN.{length, getD, drop, List·getD-eq-default, List·getD-map}
 use lib.Seq.{drop-cons}
@@ -19,7 +19,7 @@ use mir.Val.{toZ, ofZ}
 use Rattle.sign.proofs.Laws.{same}
 use Rattle.numbers.proofs.Tests.{both}
 use Rattle.items.specs.declared.Found.the-variants.{At}
-use Rattle.items.specs.ItemList.{Item, items, itemList, noItem, itemAt, firstFrom}
+use Rattle.items.specs.ItemList.{Item, items, mapSize, itemList, noItem, itemAt, Sizes, firstFrom}
 
 -- what is read at a place inside a list does not depend on what stands past its end
 pub read-inside : {A : Type 0} (l : List A) (i : ℕ) (d e : A) → i < length l → getD l i d ≡ getD l i e
@@ -39,6 +39,16 @@ pub limit : (f : Item → ℤ) (i : ℕ) → i < items → mag (getD (map f item
     → toZ w32 (ofZ w32 (getD (map f itemList) i (pos 0))) ≡ f (itemAt i)
 limit f i h fits = same _ fits ∙ column f i (pos 0) h
 
+-- what a function says of each number below n, in their order
+abbrev pub values : {A : Type 0} → (ℕ → A) → ℕ → List A
+values f zero = []
+values f (suc n) = f zero ∷ values (λ (k : ℕ). f (suc k)) n
+
+pub values-at : {A : Type 0} (f : ℕ → A) (n i : ℕ) (d : A) → i < n → getD (values f n) i d ≡ f i
+values-at f zero i d h = absurd (not-suc-le-zero h)
+values-at f (suc n) zero d h = refl
+values-at f (suc n) (suc i) d h = values-at (λ (k : ℕ). f (suc k)) n i d (le-of-suc-le-suc h)
+
 -- a test passes at each number below n
 abbrev pub passes : (ℕ → Bool) → ℕ → Bool
 passes p zero = true
@@ -51,6 +61,13 @@ passes-at p (suc n) k e h = by (λ l. passes-at p n k (both (p n) (passes p n) e
     by : (k < n → p k ≡ true) → (t : Bool) → eqb k n ≡ t → p k ≡ true
     by before true t = ap p (eqb-true k n t) ∙ both (p n) (passes p n) e .0
     by before false t = let other : k ≡ n → ⊥ = eqb-false k n t in before (omega arith)
+
+-- the two sizes are the list's
+pub sizes : Sizes
+sizes = record {
+  counted = refl;
+  mapped = λ i h. ltb-true _ _ (passes-at (λ (k : ℕ). ltb (itemAt k .register) mapSize) items i refl h);
+}
 
 -- a search, by the lines that are left
 pub search-turn : (p : Item → Bool) (l : List Item) (i : ℕ) → i < length l

@@ -1,46 +1,18 @@
--- Looking a register up: the constant table of 19 agrees with a search of the list, by one test over all of it.
+-- Looking an item up: where a search of the list ends, and what the code's table of the map holds for each register.
 -- Assumes nothing.
 use mathlib.Core.Path.{_≡_, refl, sym, ap, _∙_}
 use mathlib.Core.Bool.{Bool, true, _&&_, false, cond}
 use mathlib.Core.List.{List, [], _∷_}
 use Prim.Native.Nat.{ℕ, suc, _-_, _<_, _≤_, _+_}
 use native.Mathlib.Omega.{arith}
-use borrow.Author.Tests.{eqb-true, ltb-true, ne-eqb}
+use borrow.Author.Tests.{ltb-true, ne-eqb}
 use lib.Dec.{eqb, ltb}
 use lib.ListN.{getD, length}
 use Rattle.numbers.proofs.Tests.{both}
 use Rattle.items.specs.declared.Found.{Found}
 use Rattle.items.specs.declared.Found.the-variants.{At, Nothing}
-use Rattle.items.specs.ItemList.{Item, items, itemList, noItem, itemAt, firstFrom, named, registered, found, foundByRegister}
-use Rattle.items.proofs.Lists.{passes-at}
-
--- the code's constant: the item's number at each register of the map, 0 where none has it
-unfoldable pub numberAt : List ℕ
-numberAt = 1 ∷ 2 ∷ 3 ∷ 4 ∷ 5 ∷ 0 ∷ 0 ∷ 0 ∷ 12 ∷ 0 ∷ 0 ∷ 6 ∷ 7 ∷ 0 ∷ 8 ∷ 0 ∷ 9 ∷ 10 ∷ 11 ∷ []
-
--- what a search found, as an item's number, 0 for nothing
-abbrev pub numberFound : Found → ℕ
-numberFound (At i) = suc i
-numberFound Nothing = 0
-
-pub found-nothing : (f : Found) → numberFound f ≡ 0 → f ≡ Nothing
-found-nothing (At i) e = absurd (omega arith)
-found-nothing Nothing e = refl
-
-pub found-at : (f : Found) (n : ℕ) → numberFound f ≡ n → (n ≡ 0 → ⊥) → f ≡ At (n - 1)
-found-at (At i) n e h = ap At (omega arith)
-found-at Nothing n e h = absurd (h (sym e))
-
-agrees : ℕ → Bool
-agrees r = eqb (numberFound (foundByRegister r)) (getD numberAt r 0)
-
-pub number-at : (r : ℕ) → r < 19 → numberFound (foundByRegister r) ≡ getD numberAt r 0
-unfolding numberAt agrees foundByRegister
-number-at r h = eqb-true _ _ (passes-at agrees 19 r refl h)
-
-pub number-small : (r : ℕ) → r < 19 → getD numberAt r 0 < 13
-unfolding numberAt
-number-small r h = ltb-true _ _ (passes-at (λ (k : ℕ). ltb (getD numberAt k 0) 13) 19 r refl h)
+use Rattle.items.specs.ItemList.{Item, items, mapSize, itemList, noItem, itemAt, firstFrom, named, registered, found, foundByRegister}
+use Rattle.items.proofs.Lists.{values, values-at}
 
 -- past the map no register is found
 registers-below : ℕ → List Item → Bool
@@ -56,9 +28,9 @@ none-past n r i (x ∷ xs) e h =
     let other : x .register ≡ r → ⊥ = λ q. omega arith in
     rw (ne-eqb (x .register) r other) (none-past n r (suc i) xs (p .1) h)
 
-pub nothing-past : (r : ℕ) → 19 ≤ r → foundByRegister r ≡ Nothing
+pub nothing-past : (r : ℕ) → mapSize ≤ r → foundByRegister r ≡ Nothing
 unfolding foundByRegister registers-below
-nothing-past r h = none-past 19 r 0 itemList refl h
+nothing-past r h = none-past mapSize r 0 itemList refl h
 
 -- ---- where a search ends
 
@@ -86,3 +58,41 @@ found-place a b j e =
     let r = first-passes (named a b) itemList 0 j e in
     let z : j - 0 ≡ j = omega arith in
     (r .1, sym (ap (λ (k : ℕ). named a b (itemAt k)) z) ∙ r .2)
+
+-- ---- the table of the map
+
+-- what a search found, as an item's number, 0 for nothing
+abbrev numberFound : Found → ℕ
+numberFound (At i) = suc i
+numberFound Nothing = 0
+
+nothing-found : (f : Found) → numberFound f ≡ 0 → Nothing ≡ f
+nothing-found (At i) e = absurd (omega arith)
+nothing-found Nothing e = refl
+
+place-found : (f : Found) (n : ℕ) → numberFound f ≡ n → (n ≡ 0 → ⊥) → At (n - 1) ≡ f
+place-found (At i) n e h = ap At (omega arith)
+place-found Nothing n e h = absurd (h (sym e))
+
+-- the number of the item that has a register, 0 where none has it
+abbrev pub numberOf : ℕ → ℕ
+numberOf r = numberFound (foundByRegister r)
+
+number-listed : (r : ℕ) → numberOf r ≤ items
+unfolding foundByRegister
+number-listed r = by (foundByRegister r) refl
+  where
+    by : (f : Found) → foundByRegister r ≡ f → numberFound f ≤ items
+    by (At j) e = first-passes (registered r) itemList 0 j e .1
+    by Nothing e = omega arith
+
+-- a table that holds that number for each register of the map: what is found by what it holds for one
+module _ (r : ℕ) (h : r < mapSize) where
+  pub none-has : getD (values numberOf mapSize) r 0 ≡ 0 → Nothing ≡ foundByRegister r
+  none-has e = nothing-found (foundByRegister r) (sym (values-at numberOf mapSize r 0 h) ∙ e)
+
+  pub item-has : (getD (values numberOf mapSize) r 0 ≡ 0 → ⊥) → At (getD (values numberOf mapSize) r 0 - 1) ≡ foundByRegister r
+  item-has some = place-found (foundByRegister r) _ (sym (values-at numberOf mapSize r 0 h)) some
+
+  pub number-small : getD (values numberOf mapSize) r 0 ≤ items
+  number-small = rw (values-at numberOf mapSize r 0 h) (number-listed r)

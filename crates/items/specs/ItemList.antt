@@ -1,10 +1,11 @@
 -- The item list of document 01, and looking an item up in it. Inside, an item is known by its place in the list, from 0.
-use Prim.Native.Nat.{ℕ, suc}
+use Prim.Native.Nat.{ℕ, suc, _<_}
+use mathlib.Core.Path.{_≡_}
 use mathlib.Core.Bool.{Bool, true, false, cond, _&&_}
 use mathlib.Core.List.{List, [], _∷_}
 use lib.Dec.{eqb, leb}
 use lib.IntN.{ℤ, pos}
-use lib.ListN.{getD}
+use lib.ListN.{length, getD}
 use lib.Signed.{leZ}
 use Rattle.sign.specs.Sign.{minus}
 use Rattle.items.specs.declared.Found.{Found}
@@ -32,22 +33,21 @@ write = true
 abbrev pub line : ℕ → ℕ → ℕ → Bool → ℕ → ℤ → ℤ → ℤ → Item
 line a b r k d l h s = record { first = a; second = b; register = r; writable = k; decimals = d; low = l; high = h; start = s }
 
--- M1 measured value, AA alarm 1 state, AB alarm 2 state, B1 burnout, ER error code, S1 set value, A1 alarm 1, A2 alarm 2,
--- PB offset, PR ratio, F1 filter, TM test number; 41H is A, 31H is 1
+-- the list, in its order; an identifier's characters are their codes, 41H being A and 31H being 1
 abbrev pub itemList : List Item
 itemList =
-    line 0x4D 0x31 0x0000 read 1 (minus 1999) (pos 9999) (pos 0)
-    ∷ line 0x41 0x41 0x0001 read 0 (pos 0) (pos 0) (pos 0)
-    ∷ line 0x41 0x42 0x0002 read 0 (pos 0) (pos 0) (pos 0)
-    ∷ line 0x42 0x31 0x0003 read 0 (pos 0) (pos 1) (pos 0)
-    ∷ line 0x45 0x52 0x0004 read 0 (pos 0) (pos 255) (pos 0)
-    ∷ line 0x53 0x31 0x000B write 1 (minus 1999) (pos 9999) (pos 0)
-    ∷ line 0x41 0x31 0x000C write 1 (minus 1999) (pos 9999) (pos 500)
-    ∷ line 0x41 0x32 0x000E write 1 (minus 1999) (pos 9999) (pos 500)
-    ∷ line 0x50 0x42 0x0010 write 2 (minus 1000) (pos 1000) (pos 0)
-    ∷ line 0x50 0x52 0x0011 write 3 (pos 500) (pos 1500) (pos 1000)
-    ∷ line 0x46 0x31 0x0012 write 0 (pos 0) (pos 100) (pos 0)
-    ∷ line 0x54 0x4D 0x0008 write 0 (pos 0) (pos 999) (pos 0)
+    line 0x4D 0x31 0x0000 read 1 (minus 1999) (pos 9999) (pos 0)  -- M1 measured value
+    ∷ line 0x41 0x41 0x0001 read 0 (pos 0) (pos 0) (pos 0)  -- AA alarm 1 state
+    ∷ line 0x41 0x42 0x0002 read 0 (pos 0) (pos 0) (pos 0)  -- AB alarm 2 state
+    ∷ line 0x42 0x31 0x0003 read 0 (pos 0) (pos 1) (pos 0)  -- B1 burnout
+    ∷ line 0x45 0x52 0x0004 read 0 (pos 0) (pos 255) (pos 0)  -- ER error code
+    ∷ line 0x53 0x31 0x000B write 1 (minus 1999) (pos 9999) (pos 0)  -- S1 set value
+    ∷ line 0x41 0x31 0x000C write 1 (minus 1999) (pos 9999) (pos 500)  -- A1 alarm 1
+    ∷ line 0x41 0x32 0x000E write 1 (minus 1999) (pos 9999) (pos 500)  -- A2 alarm 2
+    ∷ line 0x50 0x42 0x0010 write 2 (minus 1000) (pos 1000) (pos 0)  -- PB offset
+    ∷ line 0x50 0x52 0x0011 write 3 (pos 500) (pos 1500) (pos 1000)  -- PR ratio
+    ∷ line 0x46 0x31 0x0012 write 0 (pos 0) (pos 100) (pos 0)  -- F1 filter
+    ∷ line 0x54 0x4D 0x0008 write 0 (pos 0) (pos 999) (pos 0)  -- TM test number
     ∷ []
 
 -- how many items there are
@@ -69,6 +69,11 @@ noItem = line 0 0 0 read 0 (pos 1) (pos 0) (pos 0)
 -- the line at a place
 abbrev pub itemAt : ℕ → Item
 itemAt i = getD itemList i noItem
+
+-- the two sizes are the list's: it has that many lines, and the register of each is in the map
+pub record Sizes : Type 0 where
+  pub counted : length itemList ≡ items
+  pub mapped : (i : ℕ) → i < items → itemAt i .register < mapSize
 
 -- an item's identifier
 abbrev pub identifierOf : Item → List ℕ

@@ -16,8 +16,8 @@ use Rattle.numbers.specs.Numbers.{none, unless}
 use Rattle.numbers.specs.Promise.{Lent}
 use Rattle.numbers.proofs.Tests.{contrary, both, chosen}
 use Rattle.numbers.proofs.Order.{none-met, test-held}
-use Rattle.items.specs.ItemList.{Item, items, listed, itemList, noItem, itemAt, fromLowToHigh, inRange}
-use Rattle.table.specs.Table.{wrongLength, entryOutside, allInRange, tableFault, goodTable, startValues, entry, M1, AA, AB, A1, A2, alarm, answered, stored, noSuchItem, valueOutside, putNumber, putTable}
+use Rattle.items.specs.ItemList.{Item, items, listed, itemList, noItem, itemAt, fromLowToHigh, inRange, found}
+use Rattle.table.specs.Table.{wrongLength, entryOutside, allInRange, tableFault, goodTable, startValues, entry, M1, AA, AB, A1, A2, Places, alarm, answered, stored, noSuchItem, valueOutside, putNumber, putTable}
 
 -- ---- a good table
 
@@ -145,6 +145,11 @@ good-put t n v g =
     (λ _. g)
 
 -- ---- the alarm states
+
+-- the places are those of the items
+pub places : Places
+unfolding found
+places = record { measured = refl; state1 = refl; state2 = refl; alarm1 = refl; alarm2 = refl }
 
 -- an alarm's state is 1 exactly when M1 is at least the alarm's value
 pub alarm-on : (t : List ℤ) (limit : ℕ) → leZ (entry t limit) (entry t M1) ≡ true → alarm t limit ≡ pos 1

@@ -3,7 +3,7 @@
 use borrow.Author.Needs.{needs}
 use borrow.Author.Tests.{lt-leb}
 use mathlib.Core.Path.{_≡_, refl, sym, ap, _∙_}
-use mathlib.Core.Bool.{Bool, true, false, _&&_}
+use mathlib.Core.Bool.{false, and-false}
 use Prim.Native.Nat.{zero, suc}
 use native.Mathlib.Omega.{arith}
 use lib.Dec.{leb}
@@ -17,11 +17,7 @@ use Rattle.items.proofs.in_range.Tie as tie
 -- no value is from 1 to 0
 empty-range : (v : ℤ) → false ≡ fromLowToHigh noItem v
 empty-range (pos zero) = refl
-empty-range (pos (suc n)) = sym (rw (lt-leb (suc n) 0 (omega arith)) (never (leb 1 (suc n))))
-  where
-    never : (b : Bool) → (b && false) ≡ false
-    never true = refl
-    never false = refl
+empty-range (pos (suc n)) = sym (rw (lt-leb (suc n) 0 (omega arith)) (and-false (leb 1 (suc n))))
 empty-range (negsuc n) = refl
 
 mul-low : tie.Need-mul-low
