@@ -10,10 +10,9 @@ use lib.Dec.{eqb, leb}
 use lib.IntN.{ℤ}
 use lib.ListN.{length}
 use Rattle.numbers.specs.Numbers.{none, unless, shortBuffer, leastBuffer, badSetting}
-use Rattle.numbers.proofs.Tests.{contrary}
-use Rattle.numbers.proofs.Tests.{chosen}
+use Rattle.numbers.proofs.Tests.{contrary, chosen}
 use Rattle.items.specs.ItemList.{items, itemList}
-use Rattle.table.specs.Table.{wrongLength, allInRange, tableFault}
+use Rattle.table.specs.Table.{wrongLength, entryOutside, allInRange, tableFault}
 use Rattle.rkc.specs.declared.Link.{Link}
 use Rattle.rkc.specs.State.{inPhase, inLimits}
 use Rattle.rkc.specs.Outcome.{Step, Outcome, received}
@@ -40,7 +39,8 @@ met-up-to n next h hs = chosen UpToLast (eqb n none) (λ _. hs) (λ _. h)
 table-up-to : (t : List ℤ) → UpToLast (tableFault t)
 unfolding tableFault
 table-up-to t =
-    chosen UpToLast (eqb (length t) items) (λ _. chosen UpToLast (allInRange itemList t) (λ _. omega arith) (λ _. omega arith)) (λ _. omega arith)
+    met-up-to _ _ (unless-up-to (eqb (length t) items) wrongLength (omega arith))
+    (met-up-to _ _ (unless-up-to (allInRange itemList t) entryOutside (omega arith)) nothing-up-to)
 
 call-up-to : (l : Link) (buffer : ℕ) (settings : Bool) → UpToLast (callFault l buffer settings)
 unfolding callFault
