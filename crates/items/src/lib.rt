@@ -13,7 +13,7 @@ pub const ITEMS: usize = 12;
 // The registers from 0000H to 0012H.
 pub const MAP_SIZE: usize = 19;
 
-// The item list, a column for each thing that it says of an item, in the list's order:
+// The item list, a column for each thing that it says of an item but its register, in the list's order:
 // M1, AA, AB, B1, ER, S1, A1, A2, PB, PR, F1, TM.
 const FIRST: [u8; ITEMS] = *b"MAABESAAPPFT";
 
@@ -70,7 +70,7 @@ pub fn identifier(i: usize) -> [u8; 2]
 pub fn writable(i: usize) -> bool
     ensures { λ r. ⌜ r ≡ itemAt i .writable ⌝ }
 {
-    if i < ITEMS { WRITABLE[i] } else { false }
+    i < ITEMS && WRITABLE[i]
 }
 
 // The decimals of an item; none past the list.
@@ -117,11 +117,5 @@ pub fn find_register(register: u16) -> Found
 pub fn in_range(i: usize, value: i32) -> bool
     ensures { λ r. ⌜ r ≡ inRange i value ⌝ }
 {
-    if i < ITEMS {
-        let low = LOW[i];
-        let high = HIGH[i];
-        if low <= value { value <= high } else { false }
-    } else {
-        false
-    }
+    i < ITEMS && (LOW[i] <= value && value <= HIGH[i])
 }

@@ -1,7 +1,7 @@
 -- Laws of ranges, one for each side of a range; of the low seven bits; and of a BCC that takes characters in one by one.
 -- Assumes nothing.
-use mathlib.Core.Path.{_≡_, refl, sym}
-use mathlib.Core.Bool.{Bool, true, false, cond}
+use mathlib.Core.Path.{_≡_, refl}
+use mathlib.Core.Bool.{true, false, and-false}
 use mathlib.Core.List.{List, [], _∷_, _++_}
 use Prim.Native.Nat.{ℕ, _+_, _≤_, _<_}
 use native.Mathlib.Nat.{mod-lt}
@@ -12,8 +12,7 @@ use lib.Bits.{bitXor, xor-lt}
 use lib.Dec.{leb, lit<}
 use lib.ListN.{length, getD, drop}
 use lib.Seq.{drop-cons}
-use Rattle.numbers.proofs.Tests.{contrary}
-use Rattle.numbers.proofs.Tests.{chosen}
+use Rattle.numbers.proofs.Tests.{both}
 use Rattle.line.specs.Line.{topBit, lowSeven, bccFrom, within, printable}
 
 pub within-in : (a b x : ℕ) → a ≤ x → x ≤ b → within a b x ≡ true
@@ -23,15 +22,11 @@ pub within-below : (a b x : ℕ) → x < a → within a b x ≡ false
 within-below a b x low = simp (lt-leb a x low)
 
 pub within-above : (a b x : ℕ) → b < x → within a b x ≡ false
-within-above a b x high = simp (lt-leb x b high) (chosen (λ (t : Bool). t ≡ false) (leb a x) (λ _. refl) (λ _. refl))
+within-above a b x high = simp (lt-leb x b high) (and-false (leb a x))
 
 -- what a range holds is between its ends
 pub within-true : (a b x : ℕ) → within a b x ≡ true → (a ≤ x) × (x ≤ b)
-within-true a b x = go (leb a x) refl
-  where
-    go : (t : Bool) → leb a x ≡ t → cond t (leb x b) false ≡ true → (a ≤ x) × (x ≤ b)
-    go true low high = (leb-true a x low, leb-true x b high)
-    go false low e = contrary (sym e)
+within-true a b x e = let h = both (leb a x) (leb x b) e in (leb-true a x (h .0), leb-true x b (h .1))
 
 pub printable-small : (c : ℕ) → printable c ≡ true → c < topBit
 printable-small c e = let h = within-true 0x20 0x7E c e in omega arith

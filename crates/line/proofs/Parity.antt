@@ -10,8 +10,7 @@ use native.Mathlib.Omega.{arith}
 use borrow.Author.Tests.{le-leb, lt-leb, lt-ltb, ltb-true, ltb-false, eq-eqb, ne-eqb, eqb-true, eqb-false}
 use lib.Count.{ones, ones-cat}
 use lib.Dec.{ltb, eqb}
-use Rattle.numbers.proofs.Tests.{contrary}
-use Rattle.numbers.proofs.Tests.{chosen}
+use Rattle.numbers.proofs.Tests.{contrary, chosen}
 use Rattle.line.specs.Line.{topBit, lowSeven, parity, keeps, topUnless, heard, isLineError, sent}
 use Rattle.line.proofs.Laws.{low-seven-small}
 

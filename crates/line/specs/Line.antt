@@ -1,5 +1,5 @@
 -- Characters on the RKC line.
-use mathlib.Core.Bool.{Bool, false, cond}
+use mathlib.Core.Bool.{Bool, cond, _&&_}
 use mathlib.Core.List.{List, [], _∷_}
 use Prim.Native.Nat.{ℕ, _+_, _%_}
 use lib.Bits.{bitXor}
@@ -45,7 +45,8 @@ parity structure = cond (eqb structure 1) 0 1
 unfoldable pub keeps : ℕ → ℕ → Bool
 keeps structure byte = cond (eqb structure 0) (ltb byte topBit) (eqb (ones byte % 2) (parity structure))
 
--- the low seven bits, with the top bit added unless the structure is kept without it
+-- the low seven bits, with the top bit added unless the structure is kept: in what is heard it is the mark of a line error, in what
+-- is sent it makes up for the parity that seven bits alone lack
 abbrev pub topUnless : Bool → ℕ → ℕ
 topUnless kept c = cond kept (lowSeven c) (lowSeven c + topBit)
 
@@ -72,7 +73,7 @@ bcc chars = bccFrom 0 chars
 
 -- x from a to b
 abbrev pub within : ℕ → ℕ → ℕ → Bool
-within a b x = cond (leb a x) (leb x b) false
+within a b x = leb a x && leb x b
 
 -- a character that an identifier may have, 20H to 7EH; DEL (7FH) is none
 abbrev pub printable : ℕ → Bool

@@ -1,6 +1,6 @@
 -- The decision over phase and character. c is a byte as it was heard: 00H to 7FH a character, 80H up a line error, which is thus
 -- never a digit, an identifier character or a control character.
-use mathlib.Core.Bool.{Bool, false, cond}
+use mathlib.Core.Bool.{Bool, cond, _&&_}
 use Prim.Native.Nat.{ℕ, _+_, _-_, _/_, _%_}
 use lib.Dec.{ltb, eqb}
 use Rattle.line.specs.Line.{STX, ETX, EOT, ENQ, ACK, NAK, within, printable, isLineError}
@@ -16,7 +16,7 @@ isDigit c = within 0x30 0x39 c
 
 -- c is the character of this digit
 abbrev pub isTheDigit : ℕ → ℕ → Bool
-isTheDigit digit c = cond (isDigit c) (eqb (c - 0x30) digit) false
+isTheDigit digit c = isDigit c && eqb (c - 0x30) digit
 
 -- a digit of the address is compared as it comes; anything else there: rest, silent
 abbrev pub atDigit : ℕ → ℕ → ℕ → Act

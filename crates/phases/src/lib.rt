@@ -1,5 +1,5 @@
 // The decision over phase and character: what a byte asks for in a phase of the RKC link. Bytes come as they were heard, 80H up
-// being line errors, so that one match has its ranges for digits, printable and control characters and for line errors too.
+// being line errors, so that each phase's match has ranges for digits, printable and control characters and for line errors too.
 // Nothing here touches a state, a table or a buffer: the caller does what an act says.
 ghost use mathlib.Core.Path.{_≡_};
 ghost use Rattle.phases.specs.Decision.{atDigit, atAddressed, atOneCharacter, atTwoCharacters, atWaiting, atText, atAnswered, decided};
