@@ -1,8 +1,8 @@
 -- Numbers tried in their order: which one is met, and what is known where none is.
 -- Assumes nothing.
-use mathlib.Core.Path.{_≡_, refl}
+use mathlib.Core.Path.{_≡_, refl, sym}
 use mathlib.Core.Bool.{Bool, true, false, cond}
-use mathlib.Core.List.{List, _∷_}
+use mathlib.Core.List.{List, [], _∷_}
 use Prim.Native.Nat.{ℕ, _<_}
 use native.Mathlib.Omega.{arith}
 use borrow.Author.Tests.{eqb-true, eqb-false, eq-eqb, ne-eqb}
@@ -10,25 +10,48 @@ use lib.Dec.{eqb}
 use Rattle.numbers.specs.Numbers.{none, unless, firstMet}
 use Rattle.numbers.proofs.Tests.{chosen}
 
-module _ (n : ℕ) (ns : List ℕ) where
-  -- a number that is met is the first; where it is not met those after it decide
-  pub this-met : (n ≡ none → ⊥) → firstMet (n ∷ ns) ≡ n
-  this-met h = rw (ne-eqb n none h)
+-- ---- a number, and the number that those after it come to: in a definition that is opened a proof finds both by itself
 
-  pub not-met : n ≡ none → firstMet (n ∷ ns) ≡ firstMet ns
-  not-met e = rw (eq-eqb n none e)
+module _ (n next : ℕ) where
+  -- a number that is met is the first; where it is not met those after it decide
+  pub this-first : (n ≡ none → ⊥) → cond (eqb n none) next n ≡ n
+  this-first h = rw (ne-eqb n none h)
+
+  pub next-first : n ≡ none → cond (eqb n none) next n ≡ next
+  next-first e = rw (eq-eqb n none e)
 
   -- where none is met, neither this one is nor any after it
-  pub none-met : firstMet (n ∷ ns) ≡ none → (n ≡ none) × (firstMet ns ≡ none)
-  none-met = by (eqb n none) refl
+  pub neither-first : cond (eqb n none) next n ≡ none → (n ≡ none) × (next ≡ none)
+  neither-first = by (eqb n none) refl
     where
-      by : (b : Bool) → eqb n none ≡ b → cond b (firstMet ns) n ≡ none → (n ≡ none) × (firstMet ns ≡ none)
+      by : (b : Bool) → eqb n none ≡ b → cond b next n ≡ none → (n ≡ none) × (next ≡ none)
       by true q e = (eqb-true n none q, e)
       by false q e = absurd (eqb-false n none q e)
 
   -- what holds of this one and of the first of those after it holds of the first of all
+  pub either-first : (P : ℕ → Type 0) → P n → P next → P (cond (eqb n none) next n)
+  either-first P p q = chosen P (eqb n none) (λ e. q) (λ e. p)
+
+-- ---- a number, and the list of those after it
+
+module _ (n : ℕ) (ns : List ℕ) where
+  pub this-met : (n ≡ none → ⊥) → firstMet (n ∷ ns) ≡ n
+  this-met = this-first n (firstMet ns)
+
+  pub not-met : n ≡ none → firstMet (n ∷ ns) ≡ firstMet ns
+  not-met = next-first n (firstMet ns)
+
+  pub none-met : firstMet (n ∷ ns) ≡ none → (n ≡ none) × (firstMet ns ≡ none)
+  none-met = neither-first n (firstMet ns)
+
   pub each : (P : ℕ → Type 0) → P n → P (firstMet ns) → P (firstMet (n ∷ ns))
-  each P p q = chosen P (eqb n none) (λ e. q) (λ e. p)
+  each = either-first n (firstMet ns)
+
+-- the last number that is tried
+pub last-met : (n : ℕ) → firstMet (n ∷ []) ≡ n
+last-met n = chosen (λ (m : ℕ). m ≡ n) (eqb n none) (λ e. sym (eqb-true n none e)) (λ _. refl)
+
+-- ---- a test, and its number
 
 -- a test that failed has its number met
 pub failed : (test : Bool) (n : ℕ) (ns : List ℕ) → test ≡ false → 0 < n → firstMet (unless test n ∷ ns) ≡ n
@@ -42,3 +65,10 @@ held test n ns e = rw e
 pub test-held : (test : Bool) (n : ℕ) → 0 < n → unless test n ≡ none → test ≡ true
 test-held true n h e = refl
 test-held false n h e = absurd (omega arith)
+
+-- where none is met, the test that comes first held, and none after it is met
+pub passed : (test : Bool) (n next : ℕ) → 0 < n → cond (eqb (unless test n) none) next (unless test n) ≡ none
+    → (test ≡ true) × (next ≡ none)
+passed test n next h e =
+    let first = neither-first (unless test n) next e in
+    (test-held test n h (first .0), first .1)

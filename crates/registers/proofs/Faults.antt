@@ -1,48 +1,38 @@
 -- The rules of each function one by one, and what follows from meeting a fault or none.
 -- Assumes nothing.
 use mathlib.Core.Path.{_≡_, refl, _∙_}
-use mathlib.Core.Bool.{Bool, true, false, cond, _&&_}
+use mathlib.Core.Bool.{Bool, true, false}
 use mathlib.Core.List.{List}
 use Prim.Native.Nat.{ℕ, _+_, _≤_, _<_}
 use native.Mathlib.Omega.{arith}
-use borrow.Author.Tests.{eqb-true, eq-eqb, ne-eqb, leb-true, le-leb, lt-leb}
+use borrow.Author.Tests.{eqb-true, eq-eqb, leb-true, le-leb, lt-leb}
 use lib.Dec.{eqb, leb}
 use lib.ListN.{length}
-use Rattle.numbers.specs.Numbers.{none}
-use Rattle.numbers.proofs.Tests.{both}
+use Rattle.numbers.specs.Numbers.{none, unless}
+use Rattle.numbers.proofs.Tests.{both, chosen}
+use Rattle.numbers.proofs.Order.{either-first, last-met, passed}
 use Rattle.items.specs.ItemList.{inRange}
 use Rattle.registers.specs.Register.{ofRegister}
-use Rattle.registers.specs.Faults.{wrongRegister, wrongData, bodyLength, mostRegisters, firstWord, secondWord, must, inMap, readFault, placeOf, writable, writeFault, loopbackFault}
+use Rattle.registers.specs.Faults.{wrongRegister, wrongData, bodyLength, rightLength, mostRegisters, goodQuantity, firstWord, secondWord, inMap, readFault, placeOf, writable, writeFault, loopbackFault}
 
--- ---- rules in a row
+-- ---- numbers
 
 -- the numbers of exceptions are above 30
 abbrev pub Numbered : ℕ → Type 0
 Numbered fault = (fault ≡ none → ⊥) → 30 < fault
 
-must-numbered : (test : Bool) (number others : ℕ) → 30 < number → Numbered others → Numbered (must test number others)
-unfolding must
-must-numbered true number others h rest = rest
-must-numbered false number others h rest = λ f. h
-
 none-numbered : Numbered none
 none-numbered f = absurd (f refl)
+
+register-numbered : (test : Bool) → Numbered (unless test wrongRegister)
+register-numbered test = chosen Numbered test (λ e. none-numbered) (λ e f. omega arith)
+
+data-numbered : (test : Bool) → Numbered (unless test wrongData)
+data-numbered test = chosen Numbered test (λ e. none-numbered) (λ e f. omega arith)
 
 -- so what a fault function gave back is such a number where it is not 0
 pub numbered-of : {fault number : ℕ} → Numbered fault → number ≡ fault → (number ≡ none → ⊥) → 30 ≤ number
 numbered-of n e h = let above = n (λ z. h (e ∙ z)) in omega arith
-
--- where no fault is met the test held, and the rules after it met none
-pub must-none : (test : Bool) (number others : ℕ) → 0 < number → must test number others ≡ none → (test ≡ true) × (others ≡ none)
-unfolding must
-must-none true number others h e = (refl, e)
-must-none false number others h e = absurd (omega arith)
-
--- a body of another length is refused whatever the rules after that one say
-pub wrong-length : (body : List ℕ) (others : ℕ) → (length body ≡ bodyLength → ⊥)
-    → must (eqb (length body) bodyLength) wrongData others ≡ wrongData
-unfolding must
-wrong-length body others h = rw (ne-eqb (length body) bodyLength h)
 
 -- ---- 03H
 
@@ -50,23 +40,24 @@ module _ (body : List ℕ) where
   pub read-numbered : Numbered (readFault body)
   unfolding readFault
   read-numbered =
-      must-numbered _ _ _ (omega arith)
-      (must-numbered _ _ _ (omega arith) (must-numbered _ _ _ (omega arith) none-numbered))
+      either-first _ _ Numbered (data-numbered (rightLength body))
+      (either-first _ _ Numbered (data-numbered (goodQuantity (secondWord body)))
+      (either-first _ _ Numbered (register-numbered (inMap (firstWord body) (secondWord body))) none-numbered))
 
   pub read-none : secondWord body < 1 → length body ≡ bodyLength → readFault body ≡ wrongData
-  unfolding readFault must
+  unfolding readFault
   read-none q h = rw (eq-eqb (length body) bodyLength h, lt-leb 1 (secondWord body) q)
 
   pub read-many : mostRegisters < secondWord body → length body ≡ bodyLength → readFault body ≡ wrongData
-  unfolding readFault must
+  unfolding readFault
   read-many q h =
       rw (eq-eqb (length body) bodyLength h, le-leb 1 (secondWord body) (omega arith), lt-leb (secondWord body) mostRegisters q)
 
   pub read-span : 1 ≤ secondWord body → secondWord body ≤ mostRegisters → length body ≡ bodyLength → {b : Bool}
-      → b ≡ inMap (firstWord body) (secondWord body) → readFault body ≡ cond b none wrongRegister
-  unfolding readFault must
+      → b ≡ inMap (firstWord body) (secondWord body) → readFault body ≡ unless b wrongRegister
+  unfolding readFault
   read-span l m h e =
-      rw (eq-eqb (length body) bodyLength h, le-leb 1 (secondWord body) l, le-leb (secondWord body) mostRegisters m, ← e)
+      rw (eq-eqb (length body) bodyLength h, le-leb 1 (secondWord body) l, le-leb (secondWord body) mostRegisters m, ← e) (last-met _)
 
 -- what a request to read that meets no fault is
 pub record ToRead (body : List ℕ) : Type 0 where
@@ -78,9 +69,9 @@ pub record ToRead (body : List ℕ) : Type 0 where
 pub read-accepted : (body : List ℕ) → readFault body ≡ none → ToRead body
 unfolding readFault
 read-accepted body e =
-    let a = must-none (eqb (length body) bodyLength) _ _ (omega arith) e in
-    let b = must-none (leb 1 (secondWord body) && leb (secondWord body) mostRegisters) _ _ (omega arith) (a .1) in
-    let c = must-none (inMap (firstWord body) (secondWord body)) _ _ (omega arith) (b .1) in
+    let a = passed (rightLength body) wrongData _ (omega arith) e in
+    let b = passed (goodQuantity (secondWord body)) wrongData _ (omega arith) (a .1) in
+    let c = passed (inMap (firstWord body) (secondWord body)) wrongRegister _ (omega arith) (b .1) in
     let q = both (leb 1 (secondWord body)) (leb (secondWord body) mostRegisters) (b .0) in
     record {
       long = eqb-true _ _ (a .0);
@@ -95,17 +86,18 @@ module _ (body : List ℕ) where
   pub write-numbered : Numbered (writeFault body)
   unfolding writeFault
   write-numbered =
-      must-numbered _ _ _ (omega arith)
-      (must-numbered _ _ _ (omega arith) (must-numbered _ _ _ (omega arith) none-numbered))
+      either-first _ _ Numbered (data-numbered (rightLength body))
+      (either-first _ _ Numbered (register-numbered (writable (firstWord body)))
+      (either-first _ _ Numbered (data-numbered (inRange (placeOf (firstWord body)) (ofRegister (secondWord body)))) none-numbered))
 
   pub write-refused : length body ≡ bodyLength → writable (firstWord body) ≡ false → writeFault body ≡ wrongRegister
-  unfolding writeFault must
+  unfolding writeFault
   write-refused h w = rw (eq-eqb (length body) bodyLength h, w)
 
   pub write-ranged : length body ≡ bodyLength → writable (firstWord body) ≡ true → {b : Bool}
-      → b ≡ inRange (placeOf (firstWord body)) (ofRegister (secondWord body)) → writeFault body ≡ cond b none wrongData
-  unfolding writeFault must
-  write-ranged h w e = rw (eq-eqb (length body) bodyLength h, w, ← e)
+      → b ≡ inRange (placeOf (firstWord body)) (ofRegister (secondWord body)) → writeFault body ≡ unless b wrongData
+  unfolding writeFault
+  write-ranged h w e = rw (eq-eqb (length body) bodyLength h, w, ← e) (last-met _)
 
 -- what a request to write that meets no fault is
 pub record ToWrite (body : List ℕ) : Type 0 where
@@ -116,9 +108,9 @@ pub record ToWrite (body : List ℕ) : Type 0 where
 pub write-accepted : (body : List ℕ) → writeFault body ≡ none → ToWrite body
 unfolding writeFault
 write-accepted body e =
-    let a = must-none (eqb (length body) bodyLength) _ _ (omega arith) e in
-    let b = must-none (writable (firstWord body)) _ _ (omega arith) (a .1) in
-    let c = must-none (inRange (placeOf (firstWord body)) (ofRegister (secondWord body))) _ _ (omega arith) (b .1) in
+    let a = passed (rightLength body) wrongData _ (omega arith) e in
+    let b = passed (writable (firstWord body)) wrongRegister _ (omega arith) (a .1) in
+    let c = passed (inRange (placeOf (firstWord body)) (ofRegister (secondWord body))) wrongData _ (omega arith) (b .1) in
     record { long = eqb-true _ _ (a .0); listed = b .0; ranged = c .0 }
 
 -- ---- 08H
@@ -126,12 +118,14 @@ write-accepted body e =
 module _ (body : List ℕ) where
   pub loopback-numbered : Numbered (loopbackFault body)
   unfolding loopbackFault
-  loopback-numbered = must-numbered _ _ _ (omega arith) (must-numbered _ _ _ (omega arith) none-numbered)
+  loopback-numbered =
+      either-first _ _ Numbered (data-numbered (rightLength body))
+      (either-first _ _ Numbered (data-numbered (eqb (firstWord body) 0)) none-numbered)
 
-  pub loopback-coded : length body ≡ bodyLength → {b : Bool} → b ≡ eqb (firstWord body) 0 → loopbackFault body ≡ cond b none wrongData
-  unfolding loopbackFault must
-  loopback-coded h e = rw (eq-eqb (length body) bodyLength h, ← e)
+  pub loopback-coded : length body ≡ bodyLength → {b : Bool} → b ≡ eqb (firstWord body) 0 → loopbackFault body ≡ unless b wrongData
+  unfolding loopbackFault
+  loopback-coded h e = rw (eq-eqb (length body) bodyLength h, ← e) (last-met _)
 
   pub loopback-accepted : loopbackFault body ≡ none → length body ≡ bodyLength
   unfolding loopbackFault
-  loopback-accepted e = eqb-true _ _ (must-none (eqb (length body) bodyLength) _ _ (omega arith) e .0)
+  loopback-accepted e = eqb-true _ _ (passed (rightLength body) wrongData _ (omega arith) e .0)

@@ -1,30 +1,27 @@
--- Two answers that meet one promise of this crate are the same answer: each promise is an equation.
+-- Each public function of this crate promises one outcome.
 -- Assumes nothing.
-use mathlib.Core.Path.{_≡_}
-use mathlib.Core.List.{List}
-use Prim.Native.Nat.{ℕ}
-use lib.IntN.{ℤ}
-use Rattle.numbers.proofs.Single.{single}
-use Rattle.registers.specs.Register.{registerAt}
-use Rattle.registers.specs.Faults.{firstWord, secondWord, readFault, writeFault, written, loopbackFault}
+use mathlib.Core.Path.{refl}
+use Rattle.numbers.specs.Promise.{OneOutcome}
+use Rattle.numbers.proofs.Single.{single, _&_}
+use Rattle.registers.proofs as registers
 
-pub first-word-single : (body : List ℕ) {r s : ℕ} → r ≡ firstWord body → s ≡ firstWord body → r ≡ s
-first-word-single body = single
+pub first-word : OneOutcome registers.first_word.ended registers.first_word.Reads.Asked registers.first_word.Reads.Post
+first-word = record { asksNothing = λ κs a. tt; single = λ κs a o u p q. single p q & refl }
 
-pub second-word-single : (body : List ℕ) {r s : ℕ} → r ≡ secondWord body → s ≡ secondWord body → r ≡ s
-second-word-single body = single
+pub second-word : OneOutcome registers.second_word.ended registers.second_word.Reads.Asked registers.second_word.Reads.Post
+second-word = record { asksNothing = λ κs a. tt; single = λ κs a o u p q. single p q & refl }
 
-pub register-at-single : (t : List ℤ) (register : ℕ) {r s : ℕ} → r ≡ registerAt t register → s ≡ registerAt t register → r ≡ s
-register-at-single t register = single
+pub register-at : OneOutcome registers.register_at.ended registers.register_at.Reads.Asked registers.register_at.Reads.Post
+register-at = record { asksNothing = λ κs a. tt; single = λ κs a o u p q. single p q & refl }
 
-pub read-fault-single : (body : List ℕ) {r s : ℕ} → r ≡ readFault body → s ≡ readFault body → r ≡ s
-read-fault-single body = single
+pub read-fault : OneOutcome registers.read_fault.ended registers.read_fault.Reads.Asked registers.read_fault.Reads.Post
+read-fault = record { asksNothing = λ κs a. tt; single = λ κs a o u p q. single p q & refl }
 
-pub write-fault-single : (body : List ℕ) {r s : ℕ} → r ≡ writeFault body → s ≡ writeFault body → r ≡ s
-write-fault-single body = single
+pub write-fault : OneOutcome registers.write_fault.ended registers.write_fault.Reads.Asked registers.write_fault.Reads.Post
+write-fault = record { asksNothing = λ κs a. tt; single = λ κs a o u p q. single p q & refl }
 
-pub store-value-single : (t : List ℤ) (body : List ℕ) {left kept : List ℤ} → left ≡ written t body → kept ≡ written t body → left ≡ kept
-store-value-single t body = single
+pub store-value : OneOutcome registers.store_value.ended registers.store_value.Reads.Asked registers.store_value.Reads.Post
+store-value = record { asksNothing = λ κs a. tt; single = λ κs a o u p q. refl & single p q & refl }
 
-pub loopback-fault-single : (body : List ℕ) {r s : ℕ} → r ≡ loopbackFault body → s ≡ loopbackFault body → r ≡ s
-loopback-fault-single body = single
+pub loopback-fault : OneOutcome registers.loopback_fault.ended registers.loopback_fault.Reads.Asked registers.loopback_fault.Reads.Post
+loopback-fault = record { asksNothing = λ κs a. tt; single = λ κs a o u p q. single p q & refl }

@@ -1,11 +1,11 @@
 -- What the body of a message asks for by its two words, and the fault that each function meets.
 use Prim.Native.Nat.{ℕ, _+_}
-use mathlib.Core.Bool.{Bool, cond, _&&_}
-use mathlib.Core.List.{List}
+use mathlib.Core.Bool.{Bool, _&&_}
+use mathlib.Core.List.{List, [], _∷_}
 use lib.Dec.{eqb, leb}
 use lib.IntN.{ℤ}
 use lib.ListN.{getD, length}
-use Rattle.numbers.specs.Numbers.{none}
+use Rattle.numbers.specs.Numbers.{unless, firstMet}
 use Rattle.items.specs.ItemList.{mapSize, itemAt, foundByRegister, placeFound, inRange}
 use Rattle.table.specs.Table.{stored}
 use Rattle.registers.specs.Register.{ofRegister, word}
@@ -17,9 +17,12 @@ wrongRegister = 32
 abbrev pub wrongData : ℕ
 wrongData = 33
 
--- the body of each function has this length
+-- the body of each of the three functions has this length, its frame two more
 abbrev pub bodyLength : ℕ
 bodyLength = 6
+
+abbrev pub rightLength : List ℕ → Bool
+rightLength body = eqb (length body) bodyLength
 
 -- the two words behind the function: a register and a quantity or a value, or a test code and data
 abbrev pub firstWord : List ℕ → ℕ
@@ -28,15 +31,14 @@ firstWord body = word (getD body 2 0) (getD body 3 0)
 abbrev pub secondWord : List ℕ → ℕ
 secondWord body = word (getD body 4 0) (getD body 5 0)
 
--- a rule: the test must hold, else this number is given; where it holds the rules after it decide
-unfoldable pub must : Bool → ℕ → ℕ → ℕ
-must test number others = cond test others number
-
 -- ---- 03H: a register to start from and a quantity
 
 -- the most registers that one message reads
 abbrev pub mostRegisters : ℕ
 mostRegisters = 125
+
+abbrev pub goodQuantity : ℕ → Bool
+goodQuantity quantity = leb 1 quantity && leb quantity mostRegisters
 
 abbrev pub inMap : ℕ → ℕ → Bool
 inMap start quantity = leb (start + quantity) mapSize
@@ -44,13 +46,15 @@ inMap start quantity = leb (start + quantity) mapSize
 -- the length, then the quantity, then the span
 unfoldable pub readFault : List ℕ → ℕ
 readFault body =
-    must (eqb (length body) bodyLength) wrongData
-    (must (leb 1 (secondWord body) && leb (secondWord body) mostRegisters) wrongData
-    (must (inMap (firstWord body) (secondWord body)) wrongRegister none))
+    firstMet
+    (unless (rightLength body) wrongData
+    ∷ unless (goodQuantity (secondWord body)) wrongData
+    ∷ unless (inMap (firstWord body) (secondWord body)) wrongRegister
+    ∷ [])
 
 -- ---- 06H: a register and a value
 
--- the place of the item that has a register
+-- the place of the item that has a register; past the list where none has it
 unfoldable pub placeOf : ℕ → ℕ
 placeOf register = placeFound (foundByRegister register)
 
@@ -61,9 +65,11 @@ writable register = itemAt (placeOf register) .writable
 -- the length, then the register, then the value
 unfoldable pub writeFault : List ℕ → ℕ
 writeFault body =
-    must (eqb (length body) bodyLength) wrongData
-    (must (writable (firstWord body)) wrongRegister
-    (must (inRange (placeOf (firstWord body)) (ofRegister (secondWord body))) wrongData none))
+    firstMet
+    (unless (rightLength body) wrongData
+    ∷ unless (writable (firstWord body)) wrongRegister
+    ∷ unless (inRange (placeOf (firstWord body)) (ofRegister (secondWord body))) wrongData
+    ∷ [])
 
 -- the item takes the value
 unfoldable pub written : List ℤ → List ℕ → List ℤ
@@ -74,5 +80,7 @@ written table body = stored table (placeOf (firstWord body)) (ofRegister (second
 -- the length, then the test code
 unfoldable pub loopbackFault : List ℕ → ℕ
 loopbackFault body =
-    must (eqb (length body) bodyLength) wrongData
-    (must (eqb (firstWord body) 0) wrongData none)
+    firstMet
+    (unless (rightLength body) wrongData
+    ∷ unless (eqb (firstWord body) 0) wrongData
+    ∷ [])

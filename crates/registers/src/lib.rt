@@ -2,15 +2,17 @@
 ghost use mathlib.Core.Path.{_≡_};
 ghost use lib.ListN.{getD};
 ghost use Rattle.registers.specs.Register.{toRegister, ofRegister, word, registerAt};
-ghost use Rattle.registers.specs.Faults.{firstWord, secondWord, inMap, readFault, placeOf, writeFault, written, loopbackFault};
+ghost use Rattle.registers.specs.Faults.{firstWord, secondWord, inMap, placeOf, written};
+ghost use Rattle.registers.specs.Faults.{readFault, writeFault, loopbackFault};
 use items::Found;
+use numbers::NONE;
 
 // Numbers given back.
 pub const WRONG_REGISTER: u8 = 32;
 
 pub const WRONG_DATA: u8 = 33;
 
-// The length of a body, the most registers that one message reads, and how many there are.
+// The length of a body, and the most registers that one message reads.
 const BODY_LENGTH: usize = 6;
 
 const MOST_REGISTERS: u16 = 125;
@@ -93,7 +95,7 @@ pub fn read_fault(body: &[u8]) -> u8
     let quantity = second_word(body);
     match quantity {
         1..=MOST_REGISTERS => if in_map(first_word(body), quantity) {
-            0
+            NONE
         } else {
             WRONG_REGISTER
         },
@@ -123,7 +125,7 @@ pub fn write_fault(body: &[u8]) -> u8
     let i = place_of(first_word(body));
     if items::writable(i) {
         if items::in_range(i, of_register(second_word(body))) {
-            0
+            NONE
         } else {
             WRONG_DATA
         }
@@ -152,5 +154,9 @@ pub fn loopback_fault(body: &[u8]) -> u8
     if body.len() != BODY_LENGTH {
         return WRONG_DATA;
     }
-    if first_word(body) == 0 { 0 } else { WRONG_DATA }
+    if first_word(body) == 0 {
+        NONE
+    } else {
+        WRONG_DATA
+    }
 }

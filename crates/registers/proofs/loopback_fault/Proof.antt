@@ -2,14 +2,14 @@
 use mathlib.Core.Path.{sym, _∙_}
 use borrow.Author.Tests.{eq-eqb, ne-eqb}
 use Rattle.registers.specs.Faults.{loopbackFault}
-use Rattle.registers.proofs.Faults.{wrong-length, loopback-coded}
+use Rattle.registers.proofs.Faults.{loopback-coded}
 use borrow.Author.Needs.{needs}
 use Rattle.registers.proofs.loopback_fault.Statement.{statement}
 use Rattle.registers.proofs.loopback_fault.Tie as tie
 
 returns : tie.Need-returns
 unfolding loopbackFault
-returns c = sym (wrong-length (c .before .before .args .body .now) _ (c .if1 .taken))
+returns c = rw (ne-eqb _ _ (c .if1 .taken))
 
 first-word-requires : tie.Need-first-word-requires
 first-word-requires c κs = search needs

@@ -1,20 +1,21 @@
 -- `registers::write_fault` meets its contract: each way out is one of the rules of a write. Assumes nothing.
 use mathlib.Core.Path.{_≡_, sym, ap, ap₂, _∙_}
-use mathlib.Core.Bool.{Bool, cond}
+use mathlib.Core.Bool.{Bool}
 use Prim.Native.Nat.{ℕ}
-use Rattle.numbers.specs.Numbers.{none}
+use borrow.Author.Tests.{ne-eqb}
+use Rattle.numbers.specs.Numbers.{unless}
 use Rattle.sign.proofs.Laws.{same}
 use Rattle.items.specs.ItemList.{itemAt, inRange}
 use Rattle.registers.specs.Register.{ofRegister}
 use Rattle.registers.specs.Faults.{wrongData, firstWord, placeOf, writable, writeFault}
-use Rattle.registers.proofs.Faults.{wrong-length, write-refused, write-ranged}
+use Rattle.registers.proofs.Faults.{write-refused, write-ranged}
 use borrow.Author.Needs.{needs}
 use Rattle.registers.proofs.write_fault.Statement.{statement}
 use Rattle.registers.proofs.write_fault.Tie as tie
 
 returns : tie.Need-returns
 unfolding writeFault
-returns c = sym (wrong-length (c .before .before .args .body .now) _ (c .if1 .taken))
+returns c = rw (ne-eqb _ _ (c .if1 .taken))
 
 first-word-requires : tie.Need-first-word-requires
 first-word-requires c κs = search needs
@@ -43,7 +44,7 @@ in-range-requires c κs = search needs
 
 -- what the rules give after the value was looked at
 ranged : (c : tie.After-in-range) →
-    writeFault (c .before .before .before .before .before .before .before .before .before .args .body .now) ≡ cond (c .in-range .result) none wrongData
+    writeFault (c .before .before .before .before .before .before .before .before .before .args .body .now) ≡ unless (c .in-range .result) wrongData
 ranged c =
     let w = c .before .before .before in
     let value = c .before .of-register in
@@ -52,10 +53,10 @@ ranged c =
     ∙ ap₂ inRange (place (w .before .before)) (same (value .result) (value .ok) ∙ value .ensures ∙ ap ofRegister (c .before .before .second-word .ensures)))
 
 returns-2 : tie.Need-returns-2
-returns-2 c = sym (ranged (c .before) ∙ ap (λ (b : Bool). cond b none wrongData) (c .if3 .taken))
+returns-2 c = sym (ranged (c .before) ∙ ap (λ (b : Bool). unless b wrongData) (c .if3 .taken))
 
 returns-3 : tie.Need-returns-3
-returns-3 c = sym (ranged (c .before) ∙ ap (λ (b : Bool). cond b none wrongData) (c .if3 .left))
+returns-3 c = sym (ranged (c .before) ∙ ap (λ (b : Bool). unless b wrongData) (c .if3 .left))
 
 returns-4 : tie.Need-returns-4
 returns-4 c = sym (write-refused _ (c .before .before .before .before .if1 .left) (sym (kind (c .before)) ∙ c .if2 .left))
