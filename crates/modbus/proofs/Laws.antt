@@ -1,50 +1,57 @@
 -- What holds of every message, over the one definition of what comes of it: the reply is short, a number leaves the table, no
--- message changes a read-only item, and a good table stays good.
+-- message changes a read-only item or puts another outside its range, and a good table stays good.
 -- Assumes nothing.
 use mathlib.Core.Path.{_≡_, refl}
-use mathlib.Core.Bool.{true, false}
+use mathlib.Core.Logic.{_⊎_, inl}
+use mathlib.Core.Bool.{Bool, true, false}
 use mathlib.Core.List.{List, []}
 use Prim.Native.Nat.{ℕ, _≤_, _<_}
 use native.Mathlib.Omega.{arith}
-use borrow.Author.Tests.{eqb-true, eqb-false}
 use lib.Dec.{eqb}
 use lib.IntN.{ℤ}
 use lib.ListN.{length}
-use Rattle.numbers.specs.Numbers.{none}
+use Rattle.numbers.specs.Numbers.{none, unless, unlessMet}
 use Rattle.numbers.proofs.Tests.{chosen}
-use Rattle.items.specs.ItemList.{itemAt}
+use Rattle.numbers.proofs.Order.{either-way}
+use Rattle.items.specs.ItemList.{itemAt, inRange}
 use Rattle.table.specs.Table.{goodTable, entry}
-use Rattle.table.proofs.Laws.{good-stored, stored-read-only}
+use Rattle.table.proofs.Laws.{good-stored, stored-read-only, stored-in-range}
 use Rattle.registers.specs.Faults.{firstWord, secondWord, readFault, writeFault, written, loopbackFault}
 use Rattle.registers.proofs.Faults.{Numbered, read-numbered, write-numbered, loopback-numbered, read-accepted, write-accepted, loopback-accepted}
-use Rattle.modbus.specs.Outcome.{Outcome, otherAddress, unknownFunction, functionOf, silent, done, exceptionReply, exception, unlessFault}
+use Rattle.modbus.specs.Outcome.{Outcome, otherAddress, unknownFunction, functionOf, silent, done, exceptionReply, exception}
 use Rattle.modbus.specs.Rules.{readRegisters, writeRegister, loopback, readReply, reading, writing, loopingBack, obeying, ours, acted}
 use Rattle.modbus.proofs.Stores.{length-registers}
 
 -- ---- by cases
 
--- what holds of every exception, and of the outcome where no fault is met
-by-fault : (P : Outcome → Type 0) (fault : ℕ) (t : List ℤ) (body : List ℕ) {o : Outcome} → Numbered fault
-    → ((number : ℕ) → 30 < number → P (exception number t body)) → (fault ≡ none → P o) → P (unlessFault fault t body o)
-unfolding unlessFault
-by-fault P fault t body n e d =
-    chosen P (eqb fault none) (λ q. d (eqb-true fault none q)) (λ q. e fault (n (eqb-false fault none q)))
+module _ (P : Outcome → Type 0) (t : List ℤ) (body : List ℕ) (exceptions : (number : ℕ) → 30 < number → P (exception t body number)) where
+  -- what holds of every exception, and of the outcome where no fault is met
+  by-fault : (fault : ℕ) {o : Outcome} → Numbered fault → (fault ≡ none → P o) → P (unlessMet fault (exception t body) o)
+  by-fault fault {o} n = either-way fault (exception t body) o P (λ met. exceptions fault (n met))
 
--- what holds of silence, of every exception and of what each function does holds of every message
-pub every : (P : Outcome → Type 0) (t : List ℤ) (address : ℕ) (body : List ℕ) → P (silent otherAddress t)
-    → ((number : ℕ) → 30 < number → P (exception number t body))
+  -- what holds of every exception and of what each function does holds of every message at our address
+  obeyed : (readFault body ≡ none → P (done (readReply t body) t)) → (writeFault body ≡ none → P (done body (written t body)))
+      → (loopbackFault body ≡ none → P (done body t)) → P (obeying t body)
+  unfolding obeying reading writing loopingBack
+  obeyed r w l =
+      chosen P (eqb (functionOf body) readRegisters) (λ q. by-fault (readFault body) (read-numbered body) r)
+      (λ q. chosen P (eqb (functionOf body) writeRegister) (λ q. by-fault (writeFault body) (write-numbered body) w)
+      (λ q. chosen P (eqb (functionOf body) loopback) (λ q. by-fault (loopbackFault body) (loopback-numbered body) l)
+      (λ q. exceptions unknownFunction (omega arith))))
+
+-- what holds of silence too holds of every message
+pub every : (P : Outcome → Type 0) (t : List ℤ) (address : ℕ) (body : List ℕ) → P (silent t otherAddress)
+    → ((number : ℕ) → 30 < number → P (exception t body number))
     → (readFault body ≡ none → P (done (readReply t body) t))
     → (writeFault body ≡ none → P (done body (written t body)))
     → (loopbackFault body ≡ none → P (done body t))
     → P (acted t address body)
-unfolding acted obeying reading writing loopingBack
-every P t address body s e r w l =
-    chosen P (ours address body)
-    (λ q. chosen P (eqb (functionOf body) readRegisters) (λ q. by-fault P (readFault body) t body (read-numbered body) e r)
-    (λ q. chosen P (eqb (functionOf body) writeRegister) (λ q. by-fault P (writeFault body) t body (write-numbered body) e w)
-    (λ q. chosen P (eqb (functionOf body) loopback) (λ q. by-fault P (loopbackFault body) t body (loopback-numbered body) e l)
-    (λ q. e unknownFunction (omega arith)))))
-    (λ q. s)
+unfolding acted
+every P t address body s e r w l = by (ours address body)
+  where
+    by : (b : Bool) → P (unlessMet (unless b otherAddress) (silent t) (obeying t body))
+    by true = obeyed P t body e r w l
+    by false = s
 
 -- ---- the laws
 
@@ -81,6 +88,16 @@ module _ (t : List ℤ) (address : ℕ) (body : List ℕ) where
       every (λ (o : Outcome). entry (o .table) j ≡ entry t j) t address body refl (λ number h. refl) (λ q. refl)
       (λ q. stored-read-only t _ j _ (write-accepted body q .listed) r)
       (λ q. refl)
+
+  -- whatever the table, each entry is left as it was or in its range
+  pub stays-or-in-range : (j : ℕ) → (entry (acted t address body .table) j ≡ entry t j) ⊎ (inRange j (entry (acted t address body .table) j) ≡ true)
+  unfolding written
+  stays-or-in-range j =
+      every (λ (o : Outcome). (entry (o .table) j ≡ entry t j) ⊎ (inRange j (entry (o .table) j) ≡ true)) t address body (inl refl)
+      (λ number h. inl refl)
+      (λ q. inl refl)
+      (λ q. stored-in-range t _ j _ (write-accepted body q .ranged))
+      (λ q. inl refl)
 
   -- a good table stays good, so every writable entry stays in its range
   pub good-stays : goodTable t ≡ true → goodTable (acted t address body .table) ≡ true

@@ -2,7 +2,7 @@
 use Prim.Native.Nat.{ℕ, _+_, _-_}
 use mathlib.Core.Bool.{cond}
 use mathlib.Core.List.{List, [], _∷_}
-use lib.Dec.{eqb, ltb}
+use lib.Dec.{ltb}
 use lib.IntN.{ℤ}
 use lib.ListN.{getD}
 use Rattle.numbers.specs.Numbers.{none}
@@ -19,7 +19,10 @@ otherAddress = 23
 abbrev pub unknownFunction : ℕ
 unknownFunction = 31
 
--- the parts that every message has: the address, then the function
+-- what every message has at its front: the address, then the function
+abbrev pub headLength : ℕ
+headLength = 2
+
 abbrev pub addressOf : List ℕ → ℕ
 addressOf body = getD body 0 0
 
@@ -27,8 +30,8 @@ abbrev pub functionOf : List ℕ → ℕ
 functionOf body = getD body 1 0
 
 -- nothing is sent, and the table stays
-abbrev pub silent : ℕ → List ℤ → Outcome
-silent number table = record { number = number; reply = []; table = table }
+abbrev pub silent : List ℤ → ℕ → Outcome
+silent table number = record { number = number; reply = []; table = table }
 
 -- the request is done: this reply, and this table
 abbrev pub done : List ℕ → List ℤ → Outcome
@@ -43,13 +46,9 @@ abbrev pub codeOf : ℕ → ℕ
 codeOf number = number - 30
 
 -- an exception reply: address, function with its top bit set, code
-unfoldable pub exceptionReply : ℕ → List ℕ → List ℕ
-exceptionReply number body = addressOf body ∷ topBitSet (functionOf body) ∷ codeOf number ∷ []
+unfoldable pub exceptionReply : List ℕ → ℕ → List ℕ
+exceptionReply body number = addressOf body ∷ topBitSet (functionOf body) ∷ codeOf number ∷ []
 
--- an exception changes nothing in the table
-abbrev pub exception : ℕ → List ℤ → List ℕ → Outcome
-exception number table body = record { number = number; reply = exceptionReply number body; table = table }
-
--- a request that meets a fault is answered by its exception; else it has the outcome given
-unfoldable pub unlessFault : ℕ → List ℤ → List ℕ → Outcome → Outcome
-unlessFault fault table body outcome = cond (eqb fault none) outcome (exception fault table body)
+-- a request that meets a fault is answered by the exception of its number, which changes nothing in the table
+abbrev pub exception : List ℤ → List ℕ → ℕ → Outcome
+exception table body number = record { number = number; reply = exceptionReply body number; table = table }

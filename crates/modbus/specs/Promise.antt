@@ -1,12 +1,18 @@
 -- The promise of a function that is lent a buffer for its reply.
-use Prim.Native.Nat.{ℕ}
+use Prim.Native.Nat.{ℕ, _≤_}
 use mathlib.Core.Path.{_≡_}
 use mathlib.Core.List.{List}
 use lib.IntN.{ℤ}
 use lib.ListN.{length}
 use lib.Seq.{sets}
+use Rattle.numbers.specs.Numbers.{leastBuffer}
 use Rattle.modbus.specs.declared.Answered.{Answered}
-use Rattle.modbus.specs.Outcome.{Outcome}
+use Rattle.modbus.specs.Outcome.{Outcome, headLength}
+
+-- what `respond` has made sure of before it replies: every reply has room in the buffer, and the message has an address and a function
+pub record Ready (buffer body : List ℕ) : Type 0 where
+  pub room : leastBuffer ≤ length buffer
+  pub head : headLength ≤ length body
 
 -- it gives back this number and the reply's length; the reply stands at the buffer's front, and the bytes past it stay
 pub record Sends (number : ℕ) (reply : List ℕ) (r : Answered) (before after : List ℕ) : Type 0 where

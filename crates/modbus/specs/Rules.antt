@@ -1,15 +1,16 @@
--- The rules of Modbus for a message body: address, function, data, without the check bytes that a line adds. A frame's length
--- is thus two more than the body's. The faults of each function are in `registers`.
+-- The rules of Modbus for a message body: address, function, data, without the check bytes that a line adds. The faults of each
+-- function are in `registers`.
 use Prim.Native.Nat.{ℕ, _*_}
 use mathlib.Core.Bool.{Bool, cond, _&&_}
 use mathlib.Core.List.{List, _∷_}
 use lib.Dec.{eqb, leb}
 use lib.IntN.{ℤ}
 use lib.ListN.{length}
-use Rattle.numbers.specs.Numbers.{shortBuffer, leastBuffer}
+use Rattle.numbers.specs.Numbers.{unless, unlessMet, shortBuffer, leastBuffer}
 use Rattle.registers.specs.Register.{registersFrom}
 use Rattle.registers.specs.Faults.{firstWord, secondWord, readFault, writeFault, written, loopbackFault}
-use Rattle.modbus.specs.Outcome.{Outcome, otherAddress, unknownFunction, addressOf, functionOf, silent, done, exception, unlessFault}
+use Rattle.modbus.specs.Outcome.{Outcome, otherAddress, unknownFunction, silent, done, exception}
+use Rattle.modbus.specs.Outcome.{headLength, addressOf, functionOf}
 
 -- the functions
 abbrev pub readRegisters : ℕ
@@ -29,19 +30,19 @@ readReply table body =
     addressOf body ∷ functionOf body ∷ 2 * secondWord body ∷ registersFrom table (firstWord body) (secondWord body)
 
 unfoldable pub reading : List ℤ → List ℕ → Outcome
-reading table body = unlessFault (readFault body) table body (done (readReply table body) table)
+reading table body = unlessMet (readFault body) (exception table body) (done (readReply table body) table)
 
 -- ---- 06H: a register and a value
 
 -- the reply equals the request
 unfoldable pub writing : List ℤ → List ℕ → Outcome
-writing table body = unlessFault (writeFault body) table body (done body (written table body))
+writing table body = unlessMet (writeFault body) (exception table body) (done body (written table body))
 
 -- ---- 08H: a test code and data
 
 -- the reply equals the request here too
 unfoldable pub loopingBack : List ℤ → List ℕ → Outcome
-loopingBack table body = unlessFault (loopbackFault body) table body (done body table)
+loopingBack table body = unlessMet (loopbackFault body) (exception table body) (done body table)
 
 -- ---- any message
 
@@ -51,16 +52,17 @@ obeying table body =
     cond (eqb (functionOf body) readRegisters) (reading table body)
     (cond (eqb (functionOf body) writeRegister) (writing table body)
     (cond (eqb (functionOf body) loopback) (loopingBack table body)
-    (exception unknownFunction table body)))
+    (exception table body unknownFunction)))
 
--- a message has an address and a function, and it is ours when the address is
+-- a message that has an address and a function is ours when the address is
 abbrev pub ours : ℕ → List ℕ → Bool
-ours address body = leb 2 (length body) && eqb (addressOf body) address
+ours address body = leb headLength (length body) && eqb (addressOf body) address
 
 -- What comes of a message at our address: another's is passed over in silence.
 unfoldable pub acted : List ℤ → ℕ → List ℕ → Outcome
-acted table address body = cond (ours address body) (obeying table body) (silent otherAddress table)
+acted table address body = unlessMet (unless (ours address body) otherAddress) (silent table) (obeying table body)
 
 -- every reply, with the bytes that a line adds, has room in a buffer of 256 bytes; a shorter buffer is refused before all else
 unfoldable pub actedWithin : List ℤ → ℕ → ℕ → List ℕ → Outcome
-actedWithin table room address body = cond (leb leastBuffer room) (acted table address body) (silent shortBuffer table)
+actedWithin table room address body =
+    unlessMet (unless (leb leastBuffer room) shortBuffer) (silent table) (acted table address body)

@@ -9,9 +9,10 @@ ghost use Rattle.numbers.specs.Numbers.{none, leastBuffer};
 ghost use Rattle.registers.specs.Register.{registersFrom};
 ghost use Rattle.registers.specs.Faults.{readFault};
 ghost use Rattle.modbus.specs.Outcome.{topBitSet, exceptionReply};
-ghost use Rattle.modbus.specs.Rules.{readReply, reading, writing, loopingBack, obeying, actedWithin};
-ghost use Rattle.modbus.specs.Promise.{Sends, Gives};
+ghost use Rattle.modbus.specs.Rules.{readReply, reading, writing, loopingBack, obeying, ours, actedWithin};
+ghost use Rattle.modbus.specs.Promise.{Ready, Sends, Gives};
 use numbers::LEAST_BUFFER;
+use numbers::NONE;
 use numbers::SHORT_BUFFER;
 
 // What a call hands back: the number, 0 for none, and the length of the reply.
@@ -24,6 +25,9 @@ pub struct Answered {
 pub const OTHER_ADDRESS: u8 = 23;
 
 pub const UNKNOWN_FUNCTION: u8 = 31;
+
+// The bytes at the front of every message: its address and its function.
+const HEAD_LENGTH: usize = 2;
 
 // Functions.
 const READ_REGISTERS: u8 = 0x03;
@@ -47,8 +51,9 @@ fn top_bit_set(function: u8) -> u8
 
 // The exception that goes with a number: 31, 32 and 33 are exceptions 1, 2 and 3.
 fn exception(reply: &mut [u8], body: &[u8], number: u8) -> Answered
-    requires { ⌜ (leastBuffer ≤ length (now reply)) × (2 ≤ length (now body)) × (30 ≤ number) ⌝ }
-    ensures { λ r. ⌜ Sends number (exceptionReply number (now (body .entry))) r (now (reply .entry)) (now (reply .exit)) ⌝ }
+    requires { ⌜ Ready (now reply) (now body) × (30 ≤ number) ⌝ }
+    ensures { λ r. ⌜ Sends number (exceptionReply (now (body .entry)) number)
+        r (now (reply .entry)) (now (reply .exit)) ⌝ }
 {
     reply[0] = body[0];
     reply[1] = top_bit_set(body[1]);
@@ -66,7 +71,10 @@ fn echo(reply: &mut [u8], body: &[u8]) -> Answered
         reply[i] = body[i];
         i += 1;
     }
-    Answered { number: 0, len: i }
+    Answered {
+        number: NONE,
+        len: i,
+    }
 }
 
 // ---- 03H: a register to start from and a quantity
@@ -74,7 +82,8 @@ fn echo(reply: &mut [u8], body: &[u8]) -> Answered
 // The registers, from the buffer's fourth byte on.
 fn put_registers(table: &[i32], reply: &mut [u8], start: u16, quantity: u16)
     requires { ⌜ (start + quantity < 0x10000) × (3 + 2 * quantity ≤ length (now reply)) ⌝ }
-    ensures { λ _. ⌜ now (reply .exit) ≡ sets (now (reply .entry)) 3 (registersFrom (now (table .entry)) start quantity) ⌝ }
+    ensures { λ _. ⌜ now (reply .exit)
+        ≡ sets (now (reply .entry)) 3 (registersFrom (now (table .entry)) start quantity) ⌝ }
 {
     let mut i = 0;
     while i < quantity {
@@ -89,7 +98,8 @@ fn put_registers(table: &[i32], reply: &mut [u8], start: u16, quantity: u16)
 // The reply to a request to read that meets no fault.
 fn send_registers(table: &[i32], reply: &mut [u8], body: &[u8]) -> Answered
     requires { ⌜ (leastBuffer ≤ length (now reply)) × (readFault (now body) ≡ none) ⌝ }
-    ensures { λ r. ⌜ Sends none (readReply (now (table .entry)) (now (body .entry))) r (now (reply .entry)) (now (reply .exit)) ⌝ }
+    ensures { λ r. ⌜ Sends none (readReply (now (table .entry)) (now (body .entry)))
+        r (now (reply .entry)) (now (reply .exit)) ⌝ }
 {
     let start = registers::first_word(body);
     let quantity = registers::second_word(body);
@@ -98,16 +108,17 @@ fn send_registers(table: &[i32], reply: &mut [u8], body: &[u8]) -> Answered
     reply[2] = (2 * quantity) as u8;
     put_registers(table, reply, start, quantity);
     let len = 3 + 2 * (quantity as usize);
-    Answered { number: 0, len }
+    Answered { number: NONE, len }
 }
 
 // Registers are read.
 fn read(table: &[i32], reply: &mut [u8], body: &[u8]) -> Answered
-    requires { ⌜ (leastBuffer ≤ length (now reply)) × (2 ≤ length (now body)) ⌝ }
-    ensures { λ r. ⌜ Gives (reading (now (table .entry)) (now (body .entry))) r (now (reply .entry)) (now (reply .exit)) (now (table .entry)) ⌝ }
+    requires { ⌜ Ready (now reply) (now body) ⌝ }
+    ensures { λ r. ⌜ Gives (reading (now (table .entry)) (now (body .entry)))
+        r (now (reply .entry)) (now (reply .exit)) (now (table .entry)) ⌝ }
 {
     let fault = registers::read_fault(body);
-    if fault != 0 {
+    if fault != NONE {
         return exception(reply, body, fault);
     }
     send_registers(table, reply, body)
@@ -117,11 +128,12 @@ fn read(table: &[i32], reply: &mut [u8], body: &[u8]) -> Answered
 
 // A register is written.
 fn write(table: &mut [i32], reply: &mut [u8], body: &[u8]) -> Answered
-    requires { ⌜ (leastBuffer ≤ length (now reply)) × (2 ≤ length (now body)) ⌝ }
-    ensures { λ r. ⌜ Gives (writing (now (table .entry)) (now (body .entry))) r (now (reply .entry)) (now (reply .exit)) (now (table .exit)) ⌝ }
+    requires { ⌜ Ready (now reply) (now body) ⌝ }
+    ensures { λ r. ⌜ Gives (writing (now (table .entry)) (now (body .entry)))
+        r (now (reply .entry)) (now (reply .exit)) (now (table .exit)) ⌝ }
 {
     let fault = registers::write_fault(body);
-    if fault != 0 {
+    if fault != NONE {
         return exception(reply, body, fault);
     }
     registers::store_value(table, body);
@@ -132,11 +144,12 @@ fn write(table: &mut [i32], reply: &mut [u8], body: &[u8]) -> Answered
 
 // The request comes back.
 fn loop_back(reply: &mut [u8], body: &[u8]) -> Answered
-    requires { ⌜ (leastBuffer ≤ length (now reply)) × (2 ≤ length (now body)) ⌝ }
-    ensures { λ r. ⌜ ((t : List ℤ) → Gives (loopingBack t (now (body .entry))) r (now (reply .entry)) (now (reply .exit)) t) ⌝ }
+    requires { ⌜ Ready (now reply) (now body) ⌝ }
+    ensures { λ r. ⌜ ((t : List ℤ) → Gives (loopingBack t (now (body .entry)))
+        r (now (reply .entry)) (now (reply .exit)) t) ⌝ }
 {
     let fault = registers::loopback_fault(body);
-    if fault != 0 {
+    if fault != NONE {
         return exception(reply, body, fault);
     }
     echo(reply, body)
@@ -146,8 +159,9 @@ fn loop_back(reply: &mut [u8], body: &[u8]) -> Answered
 
 // The function decides.
 fn obey(table: &mut [i32], reply: &mut [u8], body: &[u8]) -> Answered
-    requires { ⌜ (leastBuffer ≤ length (now reply)) × (2 ≤ length (now body)) ⌝ }
-    ensures { λ r. ⌜ Gives (obeying (now (table .entry)) (now (body .entry))) r (now (reply .entry)) (now (reply .exit)) (now (table .exit)) ⌝ }
+    requires { ⌜ Ready (now reply) (now body) ⌝ }
+    ensures { λ r. ⌜ Gives (obeying (now (table .entry)) (now (body .entry)))
+        r (now (reply .entry)) (now (reply .exit)) (now (table .exit)) ⌝ }
 {
     let function = body[1];
     match function {
@@ -165,17 +179,22 @@ fn silent(number: u8) -> Answered
     Answered { number, len: 0 }
 }
 
+// Whether a message has an address and a function, and the address is ours.
+fn ours(address: u8, body: &[u8]) -> bool
+    ensures { λ r. ⌜ r ≡ ours address (now (body .entry)) ⌝ }
+{
+    HEAD_LENGTH <= body.len() && body[0] == address
+}
+
 // A message at our address: the number, and the reply at the buffer's front.
 pub fn respond(table: &mut [i32], reply: &mut [u8], address: u8, body: &[u8]) -> Answered
-    ensures { λ r. ⌜ Gives (actedWithin (now (table .entry)) (length (now (reply .entry))) address (now (body .entry))) r (now (reply .entry)) (now (reply .exit)) (now (table .exit)) ⌝ }
+    ensures { λ r. ⌜ Gives (actedWithin (now (table .entry)) (length (now (reply .entry))) address (now (body .entry)))
+        r (now (reply .entry)) (now (reply .exit)) (now (table .exit)) ⌝ }
 {
     if reply.len() < LEAST_BUFFER {
         return silent(SHORT_BUFFER);
     }
-    if body.len() < 2 {
-        return silent(OTHER_ADDRESS);
-    }
-    if body[0] == address {
+    if ours(address, body) {
         obey(table, reply, body)
     } else {
         silent(OTHER_ADDRESS)

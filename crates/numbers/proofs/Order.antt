@@ -7,7 +7,7 @@ use Prim.Native.Nat.{ℕ, _<_}
 use native.Mathlib.Omega.{arith}
 use borrow.Author.Tests.{eqb-true, eqb-false, eq-eqb, ne-eqb}
 use lib.Dec.{eqb}
-use Rattle.numbers.specs.Numbers.{none, unless, firstMet}
+use Rattle.numbers.specs.Numbers.{none, unless, firstMet, unlessMet}
 use Rattle.numbers.proofs.Tests.{chosen}
 
 -- ---- a number, and the number that those after it come to: in a definition that is opened a proof finds both by itself
@@ -72,3 +72,17 @@ pub passed : (test : Bool) (n next : ℕ) → 0 < n → cond (eqb (unless test n
 passed test n next h e =
     let first = neither-first (unless test n) next e in
     (test-held test n h (first .0), first .1)
+
+-- ---- what comes of a number
+
+module _ {A : Type 0} (n : ℕ) (refused : ℕ → A) (done : A) where
+  -- a refusal where it is met, and else what is done
+  pub is-refused : (n ≡ none → ⊥) → unlessMet n refused done ≡ refused n
+  is-refused h = rw (ne-eqb n none h)
+
+  pub is-done : n ≡ none → unlessMet n refused done ≡ done
+  is-done e = rw (eq-eqb n none e)
+
+  -- what holds of a refusal by a number that is met, and of what is done where it is not, holds of what comes of it
+  pub either-way : (P : A → Type 0) → ((n ≡ none → ⊥) → P (refused n)) → (n ≡ none → P done) → P (unlessMet n refused done)
+  either-way P r d = chosen P (eqb n none) (λ e. d (eqb-true n none e)) (λ e. r (eqb-false n none e))

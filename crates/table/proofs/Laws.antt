@@ -1,16 +1,17 @@
 -- The laws that the crates above use: a good table stays good, what a store leaves alone, and when an alarm state is 1.
 -- Assumes nothing.
 use mathlib.Core.Path.{_≡_, refl, sym, ap, _∙_}
+use mathlib.Core.Logic.{_⊎_, inl, inr}
 use mathlib.Core.Bool.{Bool, true, false, cond, _&&_}
 use mathlib.Core.List.{List, [], _∷_}
 use Prim.Native.Nat.{ℕ, zero, suc, _-_, _<_, _≤_}
 use native.Mathlib.Nat.{not-suc-le-zero, le-of-suc-le-suc}
 use native.Mathlib.Omega.{arith}
-use borrow.Author.Tests.{eq-eqb, ne-eqb, eqb-true, leb-true, le-leb, lt-leb}
-use lib.Dec.{eqb, leb}
+use borrow.Author.Tests.{eq-eqb, ne-eqb, eqb-true, eqb-false, leb-true, le-leb, lt-leb, ltb-true, ltb-false}
+use lib.Dec.{eqb, leb, ltb}
 use lib.IntN.{ℤ, pos, negsuc}
 use lib.ListN.{getD, set, length, length-set}
-use lib.Seq.{getD-set-other}
+use lib.Seq.{set-out, getD-set-same, getD-set-other}
 use lib.Signed.{leZ}
 use Rattle.numbers.specs.Numbers.{none, unless}
 use Rattle.numbers.specs.Promise.{Lent}
@@ -84,6 +85,19 @@ pub stored-read-only : (t : List ℤ) (i j : ℕ) (v : ℤ) → itemAt i .writab
     → entry (stored t i v) j ≡ entry t j
 stored-read-only t i j v w r =
     stored-other t i j v (λ e. contrary (sym w ∙ ap (λ (k : ℕ). itemAt k .writable) (sym e) ∙ r))
+
+-- and a store in range leaves every entry unchanged or in its range, in any table
+pub stored-in-range : (t : List ℤ) (i j : ℕ) (v : ℤ) → inRange i v ≡ true
+    → (entry (stored t i v) j ≡ entry t j) ⊎ (inRange j (entry (stored t i v) j) ≡ true)
+unfolding stored
+stored-in-range t i j v r = by (eqb j i) (ltb i (length t)) refl refl
+  where
+    by : (a b : Bool) → eqb j i ≡ a → ltb i (length t) ≡ b → (entry (set t i v) j ≡ entry t j) ⊎ (inRange j (entry (set t i v) j) ≡ true)
+    by true true p q =
+        let same = eqb-true j i p in
+        inr (rw same (rw (getD-set-same t i v (pos 0) (ltb-true i (length t) q)) r))
+    by true false p q = inl (ap (λ (s : List ℤ). entry s j) (set-out t i v (ltb-false i (length t) q)))
+    by false b p q = inl (getD-set-other t i j v (pos 0) (eqb-false j i p))
 
 -- only zero lies between zero and zero
 zero-only : (v : ℤ) → (leZ (pos 0) v && leZ v (pos 0)) ≡ true → v ≡ pos 0

@@ -14,7 +14,7 @@ loopback-fault-requires c κs = search needs
 exception-requires : tie.Need-exception-requires
 exception-requires c κs =
     let f = c .before .before in
-    (search needs, search needs, numbered-of (loopback-numbered _) (f .loopback-fault .ensures) (c .before .if1 .taken))
+    (search needs, numbered-of (loopback-numbered _) (f .loopback-fault .ensures) (c .before .if1 .taken))
 
 same-length : tie.Need-same-length
 same-length c = search needs

@@ -12,7 +12,7 @@ read-fault-requires c κs = search needs
 
 exception-requires : tie.Need-exception-requires
 exception-requires c κs =
-    (search needs, search needs, numbered-of (read-numbered _) (c .before .before .read-fault .ensures) (c .before .if1 .taken))
+    (search needs, numbered-of (read-numbered _) (c .before .before .read-fault .ensures) (c .before .if1 .taken))
 
 same-length : tie.Need-same-length
 same-length c = search needs

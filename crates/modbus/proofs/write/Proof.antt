@@ -16,7 +16,7 @@ write-fault-requires c κs = search needs
 
 exception-requires : tie.Need-exception-requires
 exception-requires c κs =
-    (search needs, search needs, numbered-of (write-numbered _) (c .before .before .write-fault .ensures) (c .before .if1 .taken))
+    (search needs, numbered-of (write-numbered _) (c .before .before .write-fault .ensures) (c .before .if1 .taken))
 
 same-length : tie.Need-same-length
 same-length c = search needs
