@@ -4,7 +4,7 @@
 use mathlib.Core.Path.{_≡_, refl}
 use mathlib.Core.Logic.{_⊎_, inl}
 use mathlib.Core.Bool.{Bool, true, false}
-use mathlib.Core.List.{List, []}
+use mathlib.Core.List.{List}
 use Prim.Native.Nat.{ℕ, _≤_, _<_}
 use native.Mathlib.Omega.{arith}
 use lib.Dec.{eqb}
@@ -73,9 +73,10 @@ module _ (t : List ℤ) (address : ℕ) (body : List ℕ) where
       (λ q h. refl)
 
   -- a number that is no exception is given in silence
-  pub number-silent : (acted t address body .number ≡ none → ⊥) → acted t address body .number ≤ 30 → acted t address body .reply ≡ []
+  pub number-silent : (acted t address body .number ≡ none → ⊥) → acted t address body .number ≤ 30
+      → acted t address body ≡ silent t (acted t address body .number)
   number-silent =
-      every (λ (o : Outcome). (o .number ≡ none → ⊥) → o .number ≤ 30 → o .reply ≡ []) t address body (λ h k. refl)
+      every (λ (o : Outcome). (o .number ≡ none → ⊥) → o .number ≤ 30 → o ≡ silent t (o .number)) t address body (λ h k. refl)
       (λ number n h k. absurd (omega arith))
       (λ q h. absurd (h refl))
       (λ q h. absurd (h refl))

@@ -1,95 +1,89 @@
 -- What a call refuses, case by case, and what is known of a call and a frame that are not refused.
 -- Assumes nothing.
-use mathlib.Core.Path.{_≡_, refl, _∙_}
-use mathlib.Core.Bool.{Bool, true, false, cond, _&&_}
+use mathlib.Core.Path.{_≡_, sym, _∙_}
+use mathlib.Core.Bool.{Bool, _&&_}
 use mathlib.Core.List.{List}
 use Prim.Native.Nat.{ℕ, _≤_, _<_}
 use native.Mathlib.Omega.{arith}
-use borrow.Author.Tests.{eqb-true, eqb-false, eq-eqb, ne-eqb, leb-true, le-leb, lt-leb}
-use lib.Dec.{eqb, leb}
-use lib.IntN.{ℤ}
+use borrow.Author.Tests.{leb-true, le-leb, lt-leb}
+use lib.Dec.{leb}
 use lib.ListN.{length}
-use Rattle.numbers.specs.Numbers.{none, shortBuffer, leastBuffer, badSetting, lastAddress}
+use Rattle.numbers.specs.Numbers.{none, unless, shortBuffer, leastBuffer, badSetting, lastAddress}
 use Rattle.numbers.proofs.Tests.{both}
+use Rattle.numbers.proofs.Order.{this-first, next-first, neither-first, last-met, passed}
 use Rattle.table.specs.Table.{tableFault}
 use Rattle.crc.specs.Crc.{isRight}
-use Rattle.registers.specs.Faults.{must}
-use Rattle.registers.proofs.Faults.{must-none}
-use Rattle.rtu.specs.Frame.{wrongFrameLength, wrongCrc, firstAddress, shortest, longest, orElse, callFault, frameFault, refusal}
-
--- ---- one fault, or else the next
-
-pub this-fault : (fault next : ℕ) → (fault ≡ none → ⊥) → orElse fault next ≡ fault
-unfolding orElse
-this-fault fault next h = rw (ne-eqb fault none h)
-
-pub next-fault : (fault next : ℕ) → fault ≡ none → orElse fault next ≡ next
-unfolding orElse
-next-fault fault next h = rw (eq-eqb fault none h)
-
--- where no fault is met neither of them is one
-pub no-fault : (fault next : ℕ) → orElse fault next ≡ none → (fault ≡ none) × (next ≡ none)
-unfolding orElse
-no-fault fault next = by (eqb fault none) refl
-  where
-    by : (b : Bool) → eqb fault none ≡ b → cond b next fault ≡ none → (fault ≡ none) × (next ≡ none)
-    by true q e = (eqb-true fault none q, e)
-    by false q e = absurd (eqb-false fault none q e)
+use Rattle.rtu.specs.Frame.{wrongFrameLength, wrongCrc, firstAddress, shortest, longest, Call, callFault, frameFault, refusal}
 
 -- ---- the caller's faults
 
-module _ (t : List ℤ) (room address : ℕ) where
-  pub call-table : (tableFault t ≡ none → ⊥) → callFault t room address ≡ tableFault t
+module _ (call : Call) where
+  pub call-table : (tableFault (call .table) ≡ none → ⊥) → callFault call ≡ tableFault (call .table)
   unfolding callFault
-  call-table h = this-fault _ _ h
+  call-table = this-first _ _
 
-  pub call-room : tableFault t ≡ none → room < leastBuffer → callFault t room address ≡ shortBuffer
-  unfolding callFault must
-  call-room e h = next-fault _ _ e ∙ rw (lt-leb leastBuffer room h)
+  pub call-room : tableFault (call .table) ≡ none → length (call .buffer) < leastBuffer → callFault call ≡ shortBuffer
+  unfolding callFault
+  call-room e h = next-first _ _ e ∙ rw (lt-leb leastBuffer (length (call .buffer)) h)
 
-  pub call-below : tableFault t ≡ none → leastBuffer ≤ room → address < firstAddress → callFault t room address ≡ badSetting
-  unfolding callFault must
-  call-below e h a = next-fault _ _ e ∙ rw (le-leb leastBuffer room h, lt-leb firstAddress address a)
+  -- where the table and the buffer are right, the address decides
+  module _ (e : tableFault (call .table) ≡ none) (h : leastBuffer ≤ length (call .buffer)) where
+    pub call-below : call .address < firstAddress → callFault call ≡ badSetting
+    unfolding callFault
+    call-below a = next-first _ _ e ∙ rw (le-leb leastBuffer (length (call .buffer)) h, lt-leb firstAddress (call .address) a)
 
-  pub call-above : tableFault t ≡ none → leastBuffer ≤ room → lastAddress < address → callFault t room address ≡ badSetting
-  unfolding callFault must
-  call-above e h a =
-      next-fault _ _ e ∙ rw (le-leb leastBuffer room h, le-leb firstAddress address (omega arith), lt-leb address lastAddress a)
+    pub call-above : lastAddress < call .address → callFault call ≡ badSetting
+    unfolding callFault
+    call-above a =
+        next-first _ _ e
+        ∙ rw (le-leb leastBuffer (length (call .buffer)) h, le-leb firstAddress (call .address) (omega arith), lt-leb (call .address) lastAddress a)
 
-  pub call-right : tableFault t ≡ none → leastBuffer ≤ room → firstAddress ≤ address → address ≤ lastAddress → callFault t room address ≡ none
-  unfolding callFault must
-  call-right e h a b = next-fault _ _ e ∙ rw (le-leb leastBuffer room h, le-leb firstAddress address a, le-leb address lastAddress b)
+    pub call-right : firstAddress ≤ call .address → call .address ≤ lastAddress → callFault call ≡ none
+    unfolding callFault
+    call-right a b =
+        next-first _ _ e
+        ∙ rw (le-leb leastBuffer (length (call .buffer)) h, le-leb firstAddress (call .address) a, le-leb (call .address) lastAddress b)
 
-  pub call-has-room : callFault t room address ≡ none → 256 ≤ room
+  pub call-has-room : callFault call ≡ none → 256 ≤ length (call .buffer)
   unfolding callFault
   call-has-room e =
-      let n = no-fault (tableFault t) _ e in
-      leb-true leastBuffer room (must-none (leb leastBuffer room) _ _ (omega arith) (n .1) .0)
+      let others = neither-first (tableFault (call .table)) _ e .1 in
+      leb-true leastBuffer (length (call .buffer)) (passed (leb leastBuffer (length (call .buffer))) shortBuffer _ (omega arith) others .0)
 
 -- ---- the frame's faults
 
 module _ (frame : List ℕ) where
   pub frame-short : length frame < shortest → frameFault frame ≡ wrongFrameLength
-  unfolding frameFault must
+  unfolding frameFault
   frame-short h = rw (lt-leb shortest (length frame) h)
 
   pub frame-long : longest < length frame → frameFault frame ≡ wrongFrameLength
-  unfolding frameFault must
+  unfolding frameFault
   frame-long h = rw (le-leb shortest (length frame) (omega arith), lt-leb (length frame) longest h)
 
-  pub frame-crc : shortest ≤ length frame → length frame ≤ longest → {b : Bool} → b ≡ isRight frame → frameFault frame ≡ cond b none wrongCrc
-  unfolding frameFault must
-  frame-crc h k e = rw (le-leb shortest (length frame) h, le-leb (length frame) longest k, ← e)
+  pub frame-crc : shortest ≤ length frame → length frame ≤ longest → {b : Bool} → b ≡ isRight frame → frameFault frame ≡ unless b wrongCrc
+  unfolding frameFault
+  frame-crc h k e = rw (le-leb shortest (length frame) h, le-leb (length frame) longest k, ← e) (last-met _)
 
   pub frame-has-body : frameFault frame ≡ none → 4 ≤ length frame
   unfolding frameFault
   frame-has-body e =
-      let l = must-none (leb shortest (length frame) && leb (length frame) longest) _ _ (omega arith) e in
+      let l = passed (leb shortest (length frame) && leb (length frame) longest) wrongFrameLength _ (omega arith) e in
       leb-true shortest (length frame) (both (leb shortest (length frame)) (leb (length frame) longest) (l .0) .0)
 
 -- ---- both
 
-pub not-refused : (t : List ℤ) (room address : ℕ) (frame : List ℕ) → refusal t room address frame ≡ none
-    → (callFault t room address ≡ none) × (frameFault frame ≡ none)
-unfolding refusal
-not-refused t room address frame e = no-fault (callFault t room address) (frameFault frame) e
+module _ (call : Call) (frame : List ℕ) where
+  pub refused-call : (callFault call ≡ none → ⊥) → refusal call frame ≡ callFault call
+  unfolding refusal
+  refused-call = this-first _ _
+
+  pub refused-frame : callFault call ≡ none → refusal call frame ≡ frameFault frame
+  unfolding refusal
+  refused-frame e = next-first _ _ e ∙ last-met (frameFault frame)
+
+  pub not-refused : refusal call frame ≡ none → (callFault call ≡ none) × (frameFault frame ≡ none)
+  unfolding refusal
+  not-refused e =
+      let n = neither-first (callFault call) _ e in
+      (n .0, sym (last-met (frameFault frame)) ∙ n .1)

@@ -4,13 +4,11 @@ use mathlib.Core.Path.{_≡_, refl, sym, ap, ap₂, _∙_}
 use mathlib.Core.List.{List, [], _∷_}
 use Prim.Native.Nat.{ℕ, _+_, _≤_}
 use native.Mathlib.Omega.{arith}
-use borrow.Author.Tests.{eq-eqb, ne-eqb}
-use lib.Dec.{eqb}
 use lib.IntN.{ℤ}
 use lib.ListN.{length}
 use lib.Seq.{sets, length-sets}
 use Rattle.numbers.specs.Numbers.{none}
-use Rattle.numbers.proofs.Tests.{chosen}
+use Rattle.numbers.proofs.Order.{is-refused, is-done, either-way}
 use Rattle.crc.specs.Crc.{framed, bodyOf, sealed, sealedLength, Seals}
 use Rattle.crc.proofs.Framed.{length-framed}
 use Rattle.crc.proofs.Sealed.{with-room, sealed-body}
@@ -18,24 +16,27 @@ use Rattle.modbus.specs.declared.Answered.{Answered}
 use Rattle.modbus.specs.Outcome.{Outcome, silent}
 use Rattle.modbus.specs.Rules.{acted}
 use Rattle.modbus.specs.Promise.{Gives}
-use Rattle.rtu.specs.Frame.{refusal, sealedReply, withCrc, unlessRefused, actedOn}
+use Rattle.rtu.specs.Frame.{Call, refusal, sealedReply, withCrc, actedOn}
 
 -- ---- what comes of a frame, by cases
 
-module _ (t : List ℤ) (room address : ℕ) (frame : List ℕ) where
-  pub acted-refused : (refusal t room address frame ≡ none → ⊥) → actedOn t room address frame ≡ silent (refusal t room address frame) t
-  unfolding actedOn unlessRefused
-  acted-refused h = rw (ne-eqb (refusal t room address frame) none h)
+module _ (call : Call) (frame : List ℕ) where
+  -- what the message rules make of the body, with the reply's CRC
+  abbrev pub answered : Outcome
+  answered = withCrc (acted (call .table) (call .address) (bodyOf frame))
 
-  pub acted-answered : refusal t room address frame ≡ none → actedOn t room address frame ≡ withCrc (acted t address (bodyOf frame))
-  unfolding actedOn unlessRefused
-  acted-answered h = rw (eq-eqb (refusal t room address frame) none h)
+  pub acted-refused : (refusal call frame ≡ none → ⊥) → actedOn call frame ≡ silent (call .table) (refusal call frame)
+  unfolding actedOn
+  acted-refused = is-refused (refusal call frame) (silent (call .table)) answered
+
+  pub acted-answered : refusal call frame ≡ none → actedOn call frame ≡ answered
+  unfolding actedOn
+  acted-answered = is-done (refusal call frame) (silent (call .table)) answered
 
   -- what holds of a silent outcome and of every message's holds of every frame's
-  pub every-frame : (P : Outcome → Type 0) → ((number : ℕ) → P (silent number t)) → P (withCrc (acted t address (bodyOf frame)))
-      → P (actedOn t room address frame)
-  unfolding actedOn unlessRefused
-  every-frame P s a = chosen P (eqb (refusal t room address frame) none) (λ q. a) (λ q. s (refusal t room address frame))
+  pub every-frame : (P : Outcome → Type 0) → ((number : ℕ) → P (silent (call .table) number)) → P answered → P (actedOn call frame)
+  unfolding actedOn
+  every-frame P s a = either-way (refusal call frame) (silent (call .table)) answered P (λ met. s (refusal call frame)) (λ e. a)
 
 -- ---- sealing a reply
 

@@ -1,12 +1,17 @@
--- Two outcomes that meet the promise of `frame` are the same outcome.
+-- Each public function of this crate promises one outcome.
 -- Assumes nothing.
-use mathlib.Core.List.{List}
-use Prim.Native.Nat.{ℕ}
-use lib.IntN.{ℤ}
-use Rattle.modbus.specs.declared.Answered.{Answered}
-use Rattle.modbus.proofs.Single.{Same, gives-single}
-use Rattle.rtu.specs.Promise.{Acts}
+use mathlib.Core.Path.{refl}
+use Rattle.numbers.specs.Promise.{OneOutcome}
+use Rattle.numbers.proofs.Single.{single, _&_}
+use Rattle.modbus.proofs.Single.{answer-single}
+use Rattle.rtu.proofs as rtu
 
-pub frame-single : (table : List ℤ) (before : List ℕ) (address : ℕ) (frame : List ℕ) {r s : Answered} {after other : List ℕ} {left kept : List ℤ}
-    → Acts table before address frame r after left → Acts table before address frame s other kept → Same r s after other left kept
-frame-single table before address frame p q = gives-single (p .outcome) (q .outcome)
+pub frame : OneOutcome rtu.frame.ended rtu.frame.Reads.Asked rtu.frame.Reads.Post
+frame =
+    record {
+      asksNothing = λ κs a. tt;
+      single = λ κs a o u p q.
+          let x = p .outcome in
+          let y = q .outcome in
+          answer-single (x .sends) (y .sends) & single (x .table) (y .table) & single (x .sends .sent) (y .sends .sent) & refl;
+    }

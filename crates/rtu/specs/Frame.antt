@@ -1,14 +1,13 @@
 -- One RTU frame: a message body with its CRC behind it.
 use Prim.Native.Nat.{ℕ}
-use mathlib.Core.Bool.{cond, _&&_}
+use mathlib.Core.Bool.{_&&_}
 use mathlib.Core.List.{List, [], _∷_}
-use lib.Dec.{eqb, leb}
+use lib.Dec.{leb}
 use lib.IntN.{ℤ}
 use lib.ListN.{length}
-use Rattle.numbers.specs.Numbers.{none, shortBuffer, leastBuffer, badSetting, lastAddress}
+use Rattle.numbers.specs.Numbers.{unless, firstMet, unlessMet, shortBuffer, leastBuffer, badSetting, lastAddress}
 use Rattle.table.specs.Table.{tableFault}
 use Rattle.crc.specs.Crc.{framed, bodyOf, isRight}
-use Rattle.registers.specs.Faults.{must}
 use Rattle.modbus.specs.Outcome.{Outcome, silent}
 use Rattle.modbus.specs.Rules.{acted}
 
@@ -19,7 +18,7 @@ wrongFrameLength = 21
 abbrev pub wrongCrc : ℕ
 wrongCrc = 22
 
--- the addresses that a device can have
+-- the least address that a device can have
 abbrev pub firstAddress : ℕ
 firstAddress = 1
 
@@ -30,26 +29,32 @@ shortest = 4
 abbrev pub longest : ℕ
 longest = 256
 
--- the first fault that is met: this one, or where it is none the one after it
-unfoldable pub orElse : ℕ → ℕ → ℕ
-orElse fault next = cond (eqb fault none) next fault
+-- what the caller hands in beside a frame: the table and the reply buffer that it lends, and the address of the device
+pub record Call : Type 0 where
+  pub table : List ℤ
+  pub buffer : List ℕ
+  pub address : ℕ
 
 -- The caller's fault: the table's, then a short buffer, then an address that no device has.
-unfoldable pub callFault : List ℤ → ℕ → ℕ → ℕ
-callFault table room address =
-    orElse (tableFault table)
-    (must (leb leastBuffer room) shortBuffer
-    (must (leb firstAddress address && leb address lastAddress) badSetting none))
+unfoldable pub callFault : Call → ℕ
+callFault call =
+    firstMet
+    (tableFault (call .table)
+    ∷ unless (leb leastBuffer (length (call .buffer))) shortBuffer
+    ∷ unless (leb firstAddress (call .address) && leb (call .address) lastAddress) badSetting
+    ∷ [])
 
 -- The frame's fault: its length, then its CRC.
 unfoldable pub frameFault : List ℕ → ℕ
 frameFault frame =
-    must (leb shortest (length frame) && leb (length frame) longest) wrongFrameLength
-    (must (isRight frame) wrongCrc none)
+    firstMet
+    (unless (leb shortest (length frame) && leb (length frame) longest) wrongFrameLength
+    ∷ unless (isRight frame) wrongCrc
+    ∷ [])
 
 -- all these, in the order in which they are tried
-unfoldable pub refusal : List ℤ → ℕ → ℕ → List ℕ → ℕ
-refusal table room address frame = orElse (callFault table room address) (frameFault frame)
+unfoldable pub refusal : Call → List ℕ → ℕ
+refusal call frame = firstMet (callFault call ∷ frameFault frame ∷ [])
 
 -- a reply is sent with its CRC behind it; silence stays silence
 abbrev pub sealedReply : List ℕ → List ℕ
@@ -59,11 +64,8 @@ sealedReply (b ∷ reply) = framed (b ∷ reply)
 abbrev pub withCrc : Outcome → Outcome
 withCrc outcome = record { number = outcome .number; reply = sealedReply (outcome .reply); table = outcome .table }
 
--- a refusal is silent and leaves the table; else there is the outcome given
-unfoldable pub unlessRefused : ℕ → List ℤ → Outcome → Outcome
-unlessRefused number table outcome = cond (eqb number none) outcome (silent number table)
-
--- What comes of a frame that is not refused: the rules for a message act on its body.
-unfoldable pub actedOn : List ℤ → ℕ → ℕ → List ℕ → Outcome
-actedOn table room address frame =
-    unlessRefused (refusal table room address frame) table (withCrc (acted table address (bodyOf frame)))
+-- What comes of a frame: a refusal is silent and leaves the table; else the rules for a message act on the body, and their reply
+-- gets its CRC.
+unfoldable pub actedOn : Call → List ℕ → Outcome
+actedOn call frame =
+    unlessMet (refusal call frame) (silent (call .table)) (withCrc (acted (call .table) (call .address) (bodyOf frame)))

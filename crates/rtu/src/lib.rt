@@ -1,6 +1,5 @@
 // One Modbus RTU frame: the message rules between a test of its CRC and a reply that is sealed with one.
 ghost use mathlib.Core.Path.{_≡_};
-ghost use lib.ListN.{length};
 ghost use Rattle.numbers.specs.Numbers.{none};
 ghost use Rattle.crc.specs.Crc.{bodyOf};
 ghost use Rattle.modbus.specs.Rules.{acted};
@@ -11,6 +10,7 @@ use modbus::Answered;
 use numbers::BAD_SETTING;
 use numbers::LAST_ADDRESS;
 use numbers::LEAST_BUFFER;
+use numbers::NONE;
 use numbers::SHORT_BUFFER;
 
 // Numbers given back, beside those of the table and of the message.
@@ -26,18 +26,18 @@ const SHORTEST: usize = 4;
 const LONGEST: usize = 256;
 
 // The caller's fault, 0 for none.
-fn call_fault(table: &[i32], room: usize, address: u8) -> u8
-    ensures { λ r. ⌜ r ≡ callFault (now (table .entry)) room address ⌝ }
+fn call_fault(table: &[i32], reply: &[u8], address: u8) -> u8
+    ensures { λ r. ⌜ r ≡ callFault (record { table = now (table .entry); buffer = now (reply .entry); address = address }) ⌝ }
 {
     let fault = table::check(table);
-    if fault != 0 {
+    if fault != NONE {
         return fault;
     }
-    if room < LEAST_BUFFER {
+    if reply.len() < LEAST_BUFFER {
         return SHORT_BUFFER;
     }
     match address {
-        FIRST_ADDRESS..=LAST_ADDRESS => 0,
+        FIRST_ADDRESS..=LAST_ADDRESS => NONE,
         _ => BAD_SETTING,
     }
 }
@@ -48,17 +48,22 @@ fn frame_fault(frame: &[u8]) -> u8
 {
     let length = frame.len();
     match length {
-        SHORTEST..=LONGEST => if crc::is_right(frame) { 0 } else { WRONG_CRC },
+        SHORTEST..=LONGEST => if crc::is_right(frame) {
+            NONE
+        } else {
+            WRONG_CRC
+        },
         _ => WRONG_FRAME_LENGTH,
     }
 }
 
 // The first of both, 0 for none.
-fn refusal(table: &[i32], room: usize, address: u8, frame: &[u8]) -> u8
-    ensures { λ r. ⌜ r ≡ refusal (now (table .entry)) room address (now (frame .entry)) ⌝ }
+fn refusal(table: &[i32], reply: &[u8], address: u8, frame: &[u8]) -> u8
+    ensures { λ r. ⌜ r
+        ≡ refusal (record { table = now (table .entry); buffer = now (reply .entry); address = address }) (now (frame .entry)) ⌝ }
 {
-    let fault = call_fault(table, room, address);
-    if fault != 0 {
+    let fault = call_fault(table, reply, address);
+    if fault != NONE {
         return fault;
     }
     frame_fault(frame)
@@ -66,8 +71,9 @@ fn refusal(table: &[i32], room: usize, address: u8, frame: &[u8]) -> u8
 
 // The message rules act on the body of a frame that is not refused, and a reply gets its CRC.
 fn answer(table: &mut [i32], reply: &mut [u8], address: u8, frame: &[u8]) -> Answered
-    requires { ⌜ refusal (now table) (length (now reply)) address (now frame) ≡ none ⌝ }
-    ensures { λ r. ⌜ Gives (withCrc (acted (now (table .entry)) address (bodyOf (now (frame .entry))))) r (now (reply .entry)) (now (reply .exit)) (now (table .exit)) ⌝ }
+    requires { ⌜ refusal (record { table = now table; buffer = now reply; address = address }) (now frame) ≡ none ⌝ }
+    ensures { λ r. ⌜ Gives (withCrc (acted (now (table .entry)) address (bodyOf (now (frame .entry)))))
+        r (now (reply .entry)) (now (reply .exit)) (now (table .exit)) ⌝ }
 {
     let n = frame.len() - 2;
     let answered = modbus::respond(table, reply, address, &frame[..n]);
@@ -83,10 +89,11 @@ fn answer(table: &mut [i32], reply: &mut [u8], address: u8, frame: &[u8]) -> Ans
 
 // One frame at our address: the number, and the sealed reply at the buffer's front.
 pub fn frame(table: &mut [i32], reply: &mut [u8], address: u8, frame: &[u8]) -> Answered
-    ensures { λ r. ⌜ Acts (now (table .entry)) (now (reply .entry)) address (now (frame .entry)) r (now (reply .exit)) (now (table .exit)) ⌝ }
+    ensures { λ r. ⌜ Acts (record { table = now (table .entry); buffer = now (reply .entry); address = address }) (now (frame .entry))
+        r (now (reply .exit)) (now (table .exit)) ⌝ }
 {
-    let number = refusal(&table[..], reply.len(), address, frame);
-    if number != 0 {
+    let number = refusal(&table[..], &reply[..], address, frame);
+    if number != NONE {
         return Answered { number, len: 0 };
     }
     answer(table, reply, address, frame)

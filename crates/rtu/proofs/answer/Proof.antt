@@ -18,10 +18,10 @@ use Rattle.rtu.proofs.answer.Tie as tie
 
 -- the frame has a body, and the buffer has room
 body : (c : tie.Start) → 4 ≤ length (c .args .frame .now)
-body c = frame-has-body _ (not-refused _ _ _ _ (c .pre) .1)
+body c = frame-has-body _ (not-refused _ _ (c .pre) .1)
 
 room : (c : tie.Start) → 256 ≤ length (c .args .reply .now)
-room c = call-has-room _ _ _ (not-refused _ _ _ _ (c .pre) .0)
+room c = call-has-room _ (not-refused _ _ (c .pre) .0)
 
 sub-n : tie.Need-sub-n
 sub-n c = let h = body (c .before .before) in omega arith

@@ -12,27 +12,27 @@ check-requires c κs = search needs
 returns : tie.Need-returns
 returns c =
     let e = c .before .check .ensures in
-    e ∙ sym (call-table _ _ _ (λ z. c .if1 .taken (e ∙ z)))
+    e ∙ sym (call-table _ (λ z. c .if1 .taken (e ∙ z)))
 
 returns-2 : tie.Need-returns-2
 returns-2 c =
     let e = c .before .before .check .ensures in
-    sym (call-room _ _ _ (sym e ∙ c .before .if1 .left) (omega arith))
+    sym (call-room _ (sym e ∙ c .before .if1 .left) (omega arith))
 
 returns-3 : tie.Need-returns-3
 returns-3 c =
     let e = c .before .before .before .before .check .ensures in
-    sym (call-right _ _ _ (sym e ∙ c .before .before .before .if1 .left) (omega arith) (omega arith) (omega arith))
+    sym (call-right _ (sym e ∙ c .before .before .before .if1 .left) (omega arith) (omega arith) (omega arith))
 
 returns-4 : tie.Need-returns-4
 returns-4 c =
     let e = c .before .before .before .check .ensures in
-    sym (call-below _ _ _ (sym e ∙ c .before .before .if1 .left) (omega arith) (omega arith))
+    sym (call-below _ (sym e ∙ c .before .before .if1 .left) (omega arith) (omega arith))
 
 returns-5 : tie.Need-returns-5
 returns-5 c =
     let e = c .before .before .before .before .check .ensures in
-    sym (call-above _ _ _ (sym e ∙ c .before .before .before .if1 .left) (omega arith) (omega arith))
+    sym (call-above _ (sym e ∙ c .before .before .before .if1 .left) (omega arith) (omega arith))
 
 pub call-fault-spec : {M : Type 1} → statement M
 call-fault-spec =

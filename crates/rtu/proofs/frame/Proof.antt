@@ -1,11 +1,5 @@
 -- `rtu::frame` meets its contract: a refusal leaves all, and any other frame is answered. Assumes nothing.
-use mathlib.Core.Path.{sym, ap, _∙_}
-use Prim.Native.Nat.{ℕ}
-use native.Mathlib.Omega.{arith}
-use Rattle.modbus.specs.declared.Answered.{Answered}
-use Rattle.modbus.proofs.Acting.{gives-by, gives-silence}
-use Rattle.rtu.proofs.Replies.{acted-refused, acted-answered}
-use Rattle.rtu.proofs.Demands.{acts}
+use Rattle.rtu.proofs.Demands.{acts-refused, acts-answered}
 use borrow.Author.Needs.{needs}
 use Rattle.rtu.proofs.frame.Statement.{statement}
 use Rattle.rtu.proofs.frame.Tie as tie
@@ -16,26 +10,26 @@ refusal-requires c κs = search needs
 same-length : tie.Need-same-length
 same-length c = search needs
 
+same-length-2 : tie.Need-same-length-2
+same-length-2 c = search needs
+
 returns : tie.Need-returns
-returns c =
-    let e = c .before .refusal .ensures in
-    let answered : ℕ → Answered = λ (n : ℕ). record { number = n; len = 0 } in
-    acts _ _ _ _ (gives-by (sym (acted-refused _ _ _ _ (λ z. let zero = e ∙ z in omega arith))) (gives-silence _ _ _ _ (ap answered e)))
+returns c = acts-refused _ _ (c .before .refusal .ensures) (c .if1 .taken)
 
 answer-requires : tie.Need-answer-requires
 answer-requires c κs = search needs
 
-same-length-2 : tie.Need-same-length-2
-same-length-2 c = search needs
-
 same-length-3 : tie.Need-same-length-3
 same-length-3 c = search needs
 
+same-length-4 : tie.Need-same-length-4
+same-length-4 c = search needs
+
 returns-2 : tie.Need-returns-2
 returns-2 c =
-    let e = c .before .before .before .before .before .before .before .refusal .ensures in
-    acts _ _ _ _
-    (gives-by (sym (acted-answered _ _ _ _ (omega arith))) (c .before .before .before .answer .ensures))
+    let a = c .before .before .before in
+    let f = a .before .before .before in
+    acts-answered _ _ (f .before .refusal .ensures) (f .if1 .left) (a .answer .ensures)
 
 pub frame-spec : {M : Type 1} → statement M
 frame-spec =
@@ -43,8 +37,9 @@ frame-spec =
     (tie.spec
     refusal-requires
     same-length
+    same-length-2
     returns
     answer-requires
-    same-length-2
     same-length-3
+    same-length-4
     returns-2)

@@ -1,7 +1,6 @@
 -- `rtu::refusal` meets its contract: the caller's fault goes before the frame's. Assumes nothing.
 use mathlib.Core.Path.{sym, _∙_}
-use Rattle.rtu.specs.Frame.{refusal}
-use Rattle.rtu.proofs.Refusals.{this-fault, next-fault}
+use Rattle.rtu.proofs.Refusals.{refused-call, refused-frame}
 use borrow.Author.Needs.{needs}
 use Rattle.rtu.proofs.refusal.Statement.{statement}
 use Rattle.rtu.proofs.refusal.Tie as tie
@@ -10,19 +9,17 @@ call-fault-requires : tie.Need-call-fault-requires
 call-fault-requires c κs = search needs
 
 returns : tie.Need-returns
-unfolding refusal
 returns c =
     let e = c .before .call-fault .ensures in
-    e ∙ sym (this-fault _ _ (λ z. c .if1 .taken (e ∙ z)))
+    e ∙ sym (refused-call _ _ (λ z. c .if1 .taken (e ∙ z)))
 
 frame-fault-requires : tie.Need-frame-fault-requires
 frame-fault-requires c κs = search needs
 
 returns-2 : tie.Need-returns-2
-unfolding refusal
 returns-2 c =
     let e = c .before .before .call-fault .ensures in
-    c .frame-fault .ensures ∙ sym (next-fault _ _ (sym e ∙ c .before .if1 .left))
+    c .frame-fault .ensures ∙ sym (refused-frame _ _ (sym e ∙ c .before .if1 .left))
 
 pub refusal-spec : {M : Type 1} → statement M
 refusal-spec = tie.close (tie.spec call-fault-requires returns frame-fault-requires returns-2)
