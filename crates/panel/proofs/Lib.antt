@@ -1,3 +1,4 @@
 pub mod Faults
 pub mod Holding
+pub mod Frames
 pub mod Single

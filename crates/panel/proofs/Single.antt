@@ -1,12 +1,12 @@
 -- Two outcomes that meet the promise of one call are the same outcome: the result, and all that was lent.
 -- Assumes nothing.
-use mathlib.Core.Path.{_≡_}
+use mathlib.Core.Path.{_≡_, refl}
 use mathlib.Core.List.{List}
 use Prim.Native.Nat.{ℕ}
 use lib.IntN.{ℤ}
 use lib.ListN.{length}
-use Rattle.numbers.specs.Promise.{Lent}
-use Rattle.numbers.proofs.Single.{single}
+use Rattle.numbers.specs.Promise.{Lent, OneOutcome}
+use Rattle.numbers.proofs.Single.{single, _&_}
 use Rattle.table.specs.Table.{startNumber, startTable, putNumber, putTable}
 use Rattle.numbers.proofs.Single.{lent-single}
 use Rattle.text.specs.Numbers.{width}
@@ -14,7 +14,9 @@ use Rattle.text.specs.Reading.{reading}
 use Rattle.rkc.specs.Outcome.{Step, received, idled}
 use Rattle.state.specs.State.{unpacked}
 use Rattle.panel.specs.Calls.{linkStartNumber, linkStart, textNumber, textLeft}
-use Rattle.panel.specs.Promise.{LentBytes, ReadText, StepLeft, ByteLeft, FrameLeft}
+use Rattle.panel.specs.Promise.{LentBytes, ReadText, StepLeft, ByteLeft}
+use Rattle.panel.proofs.Frames.{result-single}
+use Rattle.panel.proofs as panel
 
 lent-bytes-single : {n : ℕ} {bs : List ℕ} {r q : ℕ} {u w : List ℕ} → LentBytes n bs r u → LentBytes n bs q w → (r ≡ q) × (u ≡ w)
 lent-bytes-single x y = (single (x .given) (y .given), single (x .left) (y .left))
@@ -44,10 +46,18 @@ pub idle-single : (s reply : List ℕ) (structure time : ℕ) {r q : ℕ} {held 
     → (r ≡ q) × (held ≡ kept) × (after ≡ other)
 idle-single s reply structure time = step-left-single
 
-pub rtu-single : (table : List ℤ) (reply : List ℕ) (address : ℕ) (frame : List ℕ) {r q : ℕ} {after other : List ℕ} {u w : List ℤ}
-    → FrameLeft table reply address frame r after u → FrameLeft table reply address frame q other w → (r ≡ q) × (after ≡ other) × (u ≡ w)
-rtu-single table reply address frame x y =
-    (single (x .given) (y .given), single (x .sent) (y .sent), single (x .leaves) (y .leaves))
+pub rtu : OneOutcome panel.vb_rtu.ended panel.vb_rtu.Reads.Asked panel.vb_rtu.Reads.Post
+rtu =
+    record {
+      asksNothing = λ κs a. tt;
+      single = λ κs a o u p q.
+          let x = p .outcome in
+          let y = q .outcome in
+          result-single (single (x .sends .given) (y .sends .given)) (single (x .sends .len) (y .sends .len))
+          & single (x .table) (y .table)
+          & single (x .sends .sent) (y .sends .sent)
+          & refl;
+    }
 
 pub put-single : (t : List ℤ) (item : ℕ) (value : ℤ) {r q : ℕ} {u w : List ℤ} → Lent (putNumber t item value) (putTable t item value) r u
     → Lent (putNumber t item value) (putTable t item value) q w → (r ≡ q) × (u ≡ w)

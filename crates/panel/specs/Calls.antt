@@ -1,7 +1,7 @@
 -- What the functions of the C face give back and leave, where that is not a definition of a crate below as it stands.
 use mathlib.Core.Bool.{Bool, cond, _&&_}
 use mathlib.Core.List.{List}
-use Prim.Native.Nat.{ℕ, _+_, _*_}
+use Prim.Native.Nat.{ℕ, _+_, _*_, _/_, _%_}
 use lib.Dec.{leb}
 use lib.IntN.{ℤ}
 use lib.ListN.{length}
@@ -14,11 +14,16 @@ use Rattle.phases.specs.Phases.{rest}
 use Rattle.rkc.specs.declared.Link.{Link}
 use Rattle.rkc.specs.State.{inPhase}
 use Rattle.rkc.specs.Outcome.{badState}
+use Rattle.modbus.specs.declared.Answered.{Answered}
 use Rattle.state.specs.State.{isState, packed, packedInto}
 
 -- the number and the length of the reply in one
 abbrev pub result : ℕ → ℕ → ℕ
 result number len = number + 256 * len
+
+-- the two taken out of it again
+abbrev pub answerIn : ℕ → Answered
+answerIn r = record { number = r % 256; len = r / 256 }
 
 -- the numbers that hand the state back as it came: 1 to 5
 abbrev pub isCallFault : ℕ → Bool

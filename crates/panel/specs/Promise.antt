@@ -6,13 +6,10 @@ use mathlib.Core.List.{List}
 use lib.IntN.{ℤ}
 use lib.ListN.{length}
 use lib.Seq.{sets}
-use Rattle.numbers.specs.Numbers.{none}
 use Rattle.rkc.specs.declared.Stepped.{Stepped}
 use Rattle.rkc.specs.Outcome.{Step, Outcome}
 use Rattle.text.specs.declared.Reading.{Reading}
 use Rattle.text.specs.Numbers.{numberOf, valueOf}
-use Rattle.crc.specs.Damage.{Spoils, flip}
-use Rattle.rtu.specs.Frame.{wrongCrc, callFault, actedOn}
 use Rattle.state.specs.State.{stateBytes}
 use Rattle.panel.specs.Calls.{result, isCallFault, heldAfter}
 
@@ -51,13 +48,3 @@ pub record StepLeft (step : Step) (r : ℕ) (state held before after : List ℕ)
 pub record ByteLeft (outcome : Outcome) (r : ℕ) (state held before after : List ℕ) (table : List ℤ) : Type 0 where
   pub step : StepLeft (outcome .step) r state held before after
   pub left : table ≡ outcome .table
-
--- it gives back the number and the reply's length of what comes of a frame; the reply stands at the buffer's front, the bytes past
--- it stay, and the table is left so. Where the caller made no fault and the line has spoiled a right frame, by flips within 16
--- consecutive bits as sent or by an odd number of flips, it gives 22 and leaves buffer and table
-pub record FrameLeft (table : List ℤ) (before : List ℕ) (address : ℕ) (frame : List ℕ) (r : ℕ) (after : List ℕ) (left : List ℤ) : Type 0 where
-  pub given : r ≡ result (actedOn table (length before) address frame .number) (length (actedOn table (length before) address frame .reply))
-  pub sent : after ≡ sets before 0 (actedOn table (length before) address frame .reply)
-  pub leaves : left ≡ actedOn table (length before) address frame .table
-  pub damage : (f m : List ℕ) → callFault table (length before) address ≡ none → Spoils f m → frame ≡ flip f m
-      → (r ≡ wrongCrc) × (after ≡ before) × (left ≡ table)

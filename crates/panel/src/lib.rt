@@ -10,8 +10,9 @@ ghost use Rattle.text.specs.Numbers.{width};
 ghost use Rattle.text.specs.Reading.{reading};
 ghost use Rattle.rkc.specs.Outcome.{received, idled};
 ghost use Rattle.state.specs.State.{unpacked};
-ghost use Rattle.panel.specs.Calls.{result, isCallFault, linkStartNumber, linkStart, textNumber, textLeft};
-ghost use Rattle.panel.specs.Promise.{LentBytes, ReadText, longestReply, Holdable, Held, StepLeft, ByteLeft, FrameLeft};
+ghost use Rattle.rtu.specs.Promise.{Acts};
+ghost use Rattle.panel.specs.Calls.{result, answerIn, isCallFault, linkStartNumber, linkStart, textNumber, textLeft};
+ghost use Rattle.panel.specs.Promise.{LentBytes, ReadText, longestReply, Holdable, Held, StepLeft, ByteLeft};
 use rkc::Link;
 use rkc::Stepped;
 
@@ -104,7 +105,8 @@ pub extern "C" fn vb_idle(state: &mut [u8], reply: &mut [u8], structure: u8, tim
 // One RTU frame.
 #[no_mangle]
 pub extern "C" fn vb_rtu(table: &mut [i32], reply: &mut [u8], address: u8, frame: &[u8]) -> u32
-    ensures { λ r. ⌜ FrameLeft (now (table .entry)) (now (reply .entry)) address (now (frame .entry)) r (now (reply .exit)) (now (table .exit)) ⌝ }
+    ensures { λ r. ⌜ Acts (record { table = now (table .entry); buffer = now (reply .entry); address = address }) (now (frame .entry))
+        (answerIn r) (now (reply .exit)) (now (table .exit)) ⌝ }
 {
     let answered = rtu::frame(table, reply, address, frame);
     result(answered.number, answered.len)

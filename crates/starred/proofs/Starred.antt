@@ -13,12 +13,11 @@ use Rattle.block.specs.Block.{verdict}
 use Rattle.rkc.specs.State.{used, inLimits, withMore, withEnd}
 use Rattle.rkc.specs.Outcome.{performed, callFault, byteFault, received}
 use Rattle.crc.specs.Crc.{shift, shifts, crcFrom, crc16Of, framed, isRight}
-use Rattle.registers.specs.Faults.{must, loopbackFault}
+use Rattle.registers.specs.Faults.{loopbackFault}
 use Rattle.modbus.specs.Rules.{loopingBack, obeying, acted}
-use Rattle.modbus.specs.Outcome.{unlessFault}
 use Rattle.rtu.specs.Frame as rtu
 use Rattle.starred.specs.Starred.{Example, table, start, after, blockBytes, placeOf, unlessNumber, ofBlock, ofWritten, ofFrame, made}
 
 pub starred : map (λ (e : Example). made (e .deed)) table ≡ map (λ (e : Example). e .result) table
-unfolding ones found inRange tableFault startValues stored keeps heard sent bccFrom reading fits text written decided verdict used inLimits withMore withEnd performed callFault byteFault received shift shifts crcFrom crc16Of framed isRight must loopbackFault loopingBack obeying acted unlessFault rtu.orElse rtu.callFault rtu.frameFault rtu.refusal rtu.unlessRefused rtu.actedOn start after blockBytes placeOf unlessNumber ofBlock ofWritten ofFrame made
+unfolding ones found inRange tableFault startValues stored keeps heard sent bccFrom reading fits text written decided verdict used inLimits withMore withEnd performed callFault byteFault received shift shifts crcFrom crc16Of framed isRight loopbackFault loopingBack obeying acted rtu.callFault rtu.frameFault rtu.refusal rtu.actedOn start after blockBytes placeOf unlessNumber ofBlock ofWritten ofFrame made
 starred = refl

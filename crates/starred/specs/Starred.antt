@@ -6,7 +6,7 @@ use Prim.Native.Nat.{ℕ}
 use Prim.Native.String.{String}
 use lib.Dec.{eqb}
 use lib.IntN.{ℤ, pos}
-use lib.ListN.{getD}
+use lib.ListN.{getD, replicate}
 use Rattle.numbers.specs.Numbers.{none, leastBuffer}
 use Rattle.sign.specs.Sign.{minus}
 use Rattle.items.specs.ItemList.{found, placeFound}
@@ -137,4 +137,5 @@ made (block item chars) = ofBlock (placeOf (ascii item)) (after start (blockByte
 made (writing d v) = ofWritten (written width d v)
 made (sending structure c) = byte (sent structure c)
 made (checking frame) = right (isRight frame)
-made (answering address frame) = ofFrame (actedOn startValues leastBuffer address frame)
+made (answering address frame) =
+    ofFrame (actedOn (record { table = startValues; buffer = replicate leastBuffer 0; address = address }) frame)

@@ -1,0 +1,43 @@
+-- `vb_rtu` keeps the promise of `rtu::frame`, of the answer that its result holds. So the demands that the library meets hold of it
+-- as they stand.
+-- Assumes nothing.
+use mathlib.Core.Path.{_≡_, ap₂, subst}
+use mathlib.Core.List.{List}
+use Prim.Native.Nat.{ℕ, _/_, _%_, _<_}
+use native.Mathlib.Omega.{arith}
+use lib.IntN.{ℤ}
+use Rattle.modbus.specs.declared.Answered.{Answered}
+use Rattle.rtu.specs.Frame.{Call}
+use Rattle.rtu.specs.Promise.{Untouched, Acts}
+use Rattle.rtu.specs.Demands.{OfFrame}
+use Rattle.rtu.proofs.Demands.{demand-1-frame}
+use Rattle.panel.specs.Calls.{result, answerIn}
+
+-- ---- a result and the answer in it
+
+-- a result holds the answer that it was made of
+answer-held : {number len r : ℕ} → number < 256 → r ≡ result number len → record { number = number; len = len } ≡ answerIn r
+answer-held n e = ap₂ (λ (a b : ℕ). record { number = a; len = b }) (omega arith) (omega arith)
+
+-- and is the only one that holds it
+pub result-single : {r q : ℕ} → r % 256 ≡ q % 256 → r / 256 ≡ q / 256 → r ≡ q
+result-single n l = omega arith
+
+-- ---- a frame
+
+module _ {call : Call} {after : List ℕ} {left : List ℤ} (r : ℕ) where
+  -- what the library promises of its answer is promised of the result
+  pub acts-in : {frame : List ℕ} {a : Answered} → a .number < 256 → r ≡ result (a .number) (a .len) → Acts call frame a after left
+      → Acts call frame (answerIn r) after left
+  acts-in {frame} n e = subst (λ (x : Answered). Acts call frame x after left) (answer-held n e)
+
+  -- every call that keeps its promise meets demand 1
+  pub demand-1-rtu : (frame : List ℕ) → Acts call frame (answerIn r) after left → OfFrame call (answerIn r) after left
+  demand-1-rtu frame = demand-1-frame call frame
+
+  -- where nothing is replied, as after the caller's fault, the result is the number itself
+  pub silent-result : {number : ℕ} → Untouched number call (answerIn r) after left → r ≡ number
+  silent-result u =
+      let given = u .given in
+      let silent = u .silent in
+      omega arith
