@@ -1,6 +1,6 @@
 pub mod Limits
 pub mod Numerals
-pub mod Refusals
+pub mod Readings
 pub mod RoundTrip
 pub mod Single
 pub mod Steps

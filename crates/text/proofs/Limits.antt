@@ -2,7 +2,7 @@
 -- between them.
 -- Assumes nothing.
 use mathlib.Core.Path.{_≡_, refl, sym, ap, _∙_}
-use mathlib.Core.Bool.{Bool, true, false, _&&_}
+use mathlib.Core.Bool.{true, false, and-true}
 use Prim.Native.Nat.{ℕ, zero, suc, _-_, _^_, _≤_, zero-le}
 use native.Mathlib.Nat.{one-le-pow}
 use native.Mathlib.Omega.{arith}
@@ -13,9 +13,7 @@ use lib.Signed.{leZ}
 use Rattle.sign.specs.Sign.{minus}
 use Rattle.numbers.proofs.Tests.{contrary}
 use Rattle.text.specs.Writing.{room, fits}
-
-abbrev pub between : ℤ → ℤ → ℤ → Bool
-between low high v = leZ low v && leZ v high
+use Rattle.text.specs.Demands.{between, WhatFits}
 
 smaller : (n m k : ℕ) → n ≤ m → ltb m (10 ^ k) ≡ true → ltb n (10 ^ k) ≡ true
 smaller n m k h e = let p = ltb-true m (10 ^ k) e in lt-ltb n (10 ^ k) (omega arith)
@@ -41,19 +39,14 @@ fits-between width d (pos n) =
     rw (le-ltb n 0 zero-le, minus-le (10 ^ room width d true - 1) n) (nines (room width d false) n)
 fits-between width d (negsuc n) =
     nines (room width d true) (suc n) ∙ le-minus (10 ^ room width d true - 1) n ∙ sym (and-true (leZ (minus (10 ^ room width d true - 1)) (negsuc n)))
+
+-- document 01's figures
+pub what-fits : WhatFits
+what-fits = record { whole = fits-between 6 0; pointed = one-point }
   where
-    and-true : (b : Bool) → (b && true) ≡ b
-    and-true true = refl
-    and-true false = refl
-
--- six characters without decimals
-pub fits-six : (v : ℤ) → fits 6 0 v ≡ between (minus 99999) (pos 999999) v
-fits-six v = fits-between 6 0 v
-
--- six characters with a point
-pub fits-six-pointed : (d : ℕ) → 1 ≤ d → (v : ℤ) → fits 6 d v ≡ between (minus 9999) (pos 99999) v
-fits-six-pointed zero h v = absurd (omega arith)
-fits-six-pointed (suc d) h v = fits-between 6 (suc d) v
+    one-point : (d : ℕ) (v : ℤ) → 1 ≤ d → d ≤ 3 → fits 6 d v ≡ between (minus 9999) (pos 99999) v
+    one-point zero v h few = absurd (omega arith)
+    one-point (suc d) v h few = fits-between 6 (suc d) v
 
 -- the size of a value between two limits is at most that of the limit on its side of zero
 pub between-fits : (width d : ℕ) (low high v : ℤ) → leZ low v ≡ true → leZ v high ≡ true → fits width d low ≡ true → fits width d high ≡ true → fits width d v ≡ true

@@ -1,7 +1,7 @@
 -- Digits: how many a number has, the number that they write, and that the digits of a number write that number.
 -- Assumes nothing.
 use mathlib.Core.Path.{_≡_, refl, sym, ap, ap₂, _∙_}
-use mathlib.Core.Bool.{Bool, true, false, _&&_}
+use mathlib.Core.Bool.{Bool, true, _&&_, and-assoc}
 use mathlib.Core.List.{List, [], _∷_, _++_}
 use Prim.Native.Nat.{ℕ, zero, suc, _+_, _-_, _*_, _/_, _%_, _^_, _<_, _≤_}
 use native.Mathlib.Nat.{add-zero, add-suc, suc-add, mod-one, one-le-pow, pow-le-pow-right, pow-suc}
@@ -22,11 +22,7 @@ digit-range c e = let p = both (leb zeroDigit c) (leb c nineDigit) e in (leb-tru
 
 pub all-append : (xs ys : List ℕ) → allDigits (xs ++ ys) ≡ (allDigits xs && allDigits ys)
 all-append [] ys = refl
-all-append (x ∷ xs) ys = ap (λ (b : Bool). isDigit x && b) (all-append xs ys) ∙ regroup (isDigit x)
-  where
-    regroup : (a : Bool) → (a && (allDigits xs && allDigits ys)) ≡ ((a && allDigits xs) && allDigits ys)
-    regroup true = refl
-    regroup false = refl
+all-append (x ∷ xs) ys = ap (λ (b : Bool). isDigit x && b) (all-append xs ys) ∙ sym (and-assoc (isDigit x) (allDigits xs) (allDigits ys))
 
 -- both parts of a run of digits are digits
 pub parts-digits : (xs ys : List ℕ) → allDigits (xs ++ ys) ≡ true → (allDigits xs ≡ true) × (allDigits ys ≡ true)

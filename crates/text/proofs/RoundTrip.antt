@@ -7,19 +7,19 @@ use mathlib.Core.List.{List, [], _∷_, _++_, append-nil}
 use Prim.Native.Nat.{ℕ, zero, suc, _-_, _^_, _<_, _≤_}
 use native.Mathlib.Nat.{mod-eq-of-lt, mul-div-cancel, one-le-pow}
 use native.Mathlib.Omega.{arith}
-use borrow.Author.Tests.{le-ltb, le-leb, ltb-true, ne-eqb}
+use borrow.Author.Tests.{le-leb, ltb-true, ne-eqb}
 use lib.IntN.{ℤ, pos, natAbs}
 use lib.ListN.{length, getD, take, drop, length-take, length-drop, take-append-drop, drop-of-length-le}
 use lib.Seq.{take-at, take-length}
 use lib.Signed.{ltZ}
-use Rattle.numbers.specs.Numbers.{none}
 use Rattle.sign.specs.Sign.{signed}
 use Rattle.sign.proofs.Laws.{by-sign}
 use Rattle.numbers.proofs.Tests.{both}
 use Rattle.text.specs.Characters.{minusSign, point, isDigit}
 use Rattle.text.specs.Numbers.{mostDecimals}
-use Rattle.text.specs.Reading.{allDigits, numberFrom, pointAt, ofParts, ofUnsigned, ofText, reading}
-use Rattle.text.specs.Writing.{digits, pointed, room, textOf, text, fits, written}
+use Rattle.text.specs.Reading.{allDigits, numberFrom, pointAt, ofParts, ofUnsigned, ofText, readNumber, readValue}
+use Rattle.text.specs.Writing.{digits, pointed, room, textOf, text, fits}
+use Rattle.text.specs.Demands.{Demand2}
 use Rattle.text.specs.declared.Reading.the-variants.{Value}
 use Rattle.text.proofs.Numerals.{digit-range, digits-all, digits-length, number-digits, parts-digits}
 use Rattle.text.proofs.Steps.{without-minus}
@@ -100,14 +100,14 @@ module _ (width d size : ℕ) (wide : 6 ≤ width) (few : d ≤ mostDecimals) wh
       sym (without-minus d (pointed d (digits k size)) (let l = text-length width d false size wide few in omega arith) (no-minus d k size (r .0)))
       ∙ pointed-says false k size h d (r .0)
 
--- Demand 2: a value that fits is written, and reading what was written gives that value.
-pub demand-2 : (width d : ℕ) (v : ℤ) → 6 ≤ width → d ≤ 3 → fits width d v ≡ true
-    → (written width d v .number ≡ none) × (reading width d (written width d v .chars) ≡ Value v)
-unfolding fits text reading
+pub demand-2 : Demand2
+unfolding fits text readNumber readValue
 demand-2 width d v wide few f =
     let minus = ltZ v (pos 0) in
+    let chars = textOf width d minus (natAbs v) in
     let l = text-length width d minus (natAbs v) wide few in
-    rw (fitting width d v few f, le-ltb mostDecimals d few, le-ltb width (length (textOf width d minus (natAbs v))) (omega arith)) (
-      refl,
-      text-says width d (natAbs v) wide few minus (ltb-true (natAbs v) (10 ^ room width d minus) f) ∙ ap Value (sym (by-sign v)),
-    )
+    let w = fitting width d v few f in
+    let e = le-leb d mostDecimals few in
+    let s = le-leb (length chars) width (omega arith) in
+    let r = text-says width d (natAbs v) wide few minus (ltb-true (natAbs v) (10 ^ room width d minus) f) ∙ ap Value (sym (by-sign v)) in
+    record { isWritten = rw w; isRead = rw (w, e, s, r); same = rw (w, e, s, r) }

@@ -1,24 +1,23 @@
--- Two answers that meet the promise of one call are the same answer.
+-- Each public function of this crate promises one outcome.
 -- Assumes nothing.
-use mathlib.Core.Path.{_≡_}
-use mathlib.Core.List.{List}
-use Prim.Native.Nat.{ℕ}
-use lib.IntN.{ℤ}
-use Rattle.numbers.proofs.Single.{single}
-use Rattle.text.specs.Numbers.{width, numberOf, valueOf}
-use Rattle.text.specs.Reading.{reading}
-use Rattle.text.specs.Writing.{written}
-use Rattle.text.specs.declared.Reading.{Reading}
-use Rattle.text.specs.declared.Written.{Written}
+use mathlib.Core.Path.{refl}
+use Rattle.numbers.specs.Promise.{OneOutcome}
+use Rattle.numbers.proofs.Single.{single, _&_}
+use Rattle.text.proofs.Readings.{same-reading}
+use Rattle.text.proofs as text
 
-pub read-single : (d : ℕ) (cs : List ℕ) {r s : Reading} → r ≡ reading width d cs → s ≡ reading width d cs → r ≡ s
-read-single d cs = single
+pub read : OneOutcome text.read.ended text.read.Reads.Asked text.read.Reads.Post
+read =
+    record {
+      asksNothing = λ κs a. tt;
+      single = λ κs a o u p q. same-reading (o .0) (u .0) (single (p .number) (q .number)) (single (p .value) (q .value)) & refl;
+    }
 
-pub number-single : (reading : Reading) {r s : ℕ} → r ≡ numberOf reading → s ≡ numberOf reading → r ≡ s
-number-single reading = single
+pub number : OneOutcome text.Reading.number.ended text.Reading.number.Reads.Asked text.Reading.number.Reads.Post
+number = record { asksNothing = λ κs a. tt; single = λ κs a o u p q. single p q & refl }
 
-pub value-single : (reading : Reading) {r s : ℤ} → r ≡ valueOf reading → s ≡ valueOf reading → r ≡ s
-value-single reading = single
+pub value : OneOutcome text.Reading.value.ended text.Reading.value.Reads.Asked text.Reading.value.Reads.Post
+value = record { asksNothing = λ κs a. tt; single = λ κs a o u p q. single p q & refl }
 
-pub write-single : (d : ℕ) (v : ℤ) {r s : Written} → r ≡ written width d v → s ≡ written width d v → r ≡ s
-write-single d v = single
+pub write : OneOutcome text.write.ended text.write.Reads.Asked text.write.Reads.Post
+write = record { asksNothing = λ κs a. tt; single = λ κs a o u p q. single p q & refl }

@@ -1,7 +1,7 @@
 -- What a turn of each loop over characters, and each call of the reading, tells of the definitions.
 -- Assumes nothing.
 use mathlib.Core.Path.{_≡_, refl, sym, _∙_}
-use mathlib.Core.Bool.{Bool, true, false, cond, _&&_}
+use mathlib.Core.Bool.{Bool, true, false, cond, _&&_, and-false}
 use mathlib.Core.List.{List, [], _∷_, _++_}
 use Prim.Native.Nat.{ℕ, suc, _+_, _-_, _*_, _/_, _^_, _<_, _≤_}
 use native.Mathlib.Nat.{zero-add, pow-le-pow-right, mul-le-mul-left, div-le-self}
@@ -59,10 +59,6 @@ number-small whole fraction front n w f = found-below (length whole) front fract
 
 -- ---- what the parts before and after the point say
 
-and-false : (a b : Bool) → b ≡ false → (a && b) ≡ false
-and-false true b e = e
-and-false false b e = refl
-
 module _ (minus : Bool) (d : ℕ) (whole fraction : List ℕ) where
   refused-by : (allDigits (whole ++ fraction) && leb 1 (length (whole ++ fraction))) ≡ false → NoNumber ≡ ofParts minus d whole fraction
   refused-by e = rw e
@@ -72,11 +68,10 @@ module _ (minus : Bool) (d : ℕ) (whole fraction : List ℕ) where
 
   pub no-fraction : (front : ℕ) → digitsFrom front fraction ≡ Other → NoNumber ≡ ofParts minus d whole fraction
   no-fraction front e =
-      refused-by (rw (all-append whole fraction, and-false (allDigits whole) (allDigits fraction) (other-of (allDigits fraction) (numberFrom front fraction) e)))
+      refused-by (rw (all-append whole fraction, other-of (allDigits fraction) (numberFrom front fraction) e, and-false (allDigits whole)))
 
   pub no-digits : length whole + length fraction ≡ 0 → NoNumber ≡ ofParts minus d whole fraction
-  no-digits e =
-      refused-by (and-false (allDigits (whole ++ fraction)) (leb 1 (length (whole ++ fraction))) (rw (length-append whole fraction, e)))
+  no-digits e = refused-by (rw (length-append whole fraction, e, and-false (allDigits (whole ++ fraction))))
 
   pub digits-say : (front n : ℕ) → digitsFrom 0 whole ≡ Number front → digitsFrom front fraction ≡ Number n → (length whole + length fraction ≡ 0 → ⊥) → Value (signed minus (n * 10 ^ d / 10 ^ length fraction)) ≡ ofParts minus d whole fraction
   digits-say front n w f some =

@@ -2,19 +2,18 @@
 -- Assumes nothing.
 use mathlib.Core.Path.{_≡_, refl, _∙_}
 use mathlib.Core.Bool.{Bool, true, false}
-use mathlib.Core.List.{List, _∷_}
+use mathlib.Core.List.{List, [], _∷_}
 use Prim.Native.Nat.{ℕ, zero, suc, _+_, _-_, _<_, _≤_}
 use native.Mathlib.Omega.{arith}
-use borrow.Author.Tests.{ltb-false, lt-ltb, le-ltb}
-use lib.Dec.{ltb}
+use borrow.Author.Tests.{leb-true, le-leb, lt-leb}
+use lib.Dec.{leb}
 use lib.IntN.{ℤ, pos, natAbs}
 use lib.ListN.{length, take, drop, length-append, length-take, length-drop, length-replicate}
 use lib.Signed.{ltZ}
-use Rattle.numbers.specs.Numbers.{none}
-use Rattle.numbers.proofs.Tests.{chosen}
+use Rattle.numbers.specs.Numbers.{unless, firstMet, unlessMet}
 use Rattle.text.specs.Characters.{point}
 use Rattle.text.specs.Numbers.{mostDecimals, doesNotFit, tooManyDecimals}
-use Rattle.text.specs.Writing.{digits, pointed, signText, points, room, fits, textOf, text, accepted, refusal, written}
+use Rattle.text.specs.Writing.{digits, pointed, signText, points, room, fits, textOf, text, accepted, refusal, writeNumber, written}
 use Rattle.text.specs.declared.Written.{Written}
 use Rattle.text.proofs.Numerals.{digits-length}
 
@@ -53,11 +52,20 @@ text-length width d minus size wide few =
 -- ---- whatever was written, refusals too
 
 module _ (width d : ℕ) (v : ℤ) where
-  pub by-outcome : (P : Written → Type 0) → P (refusal width tooManyDecimals) → P (refusal width doesNotFit) → (d ≤ mostDecimals → P (accepted (text width d v))) → P (written width d v)
-  unfolding written
-  by-outcome P many none fit =
-      chosen P (ltb mostDecimals d) (λ _. many)
-      (λ e. chosen P (fits width d v) (λ _. fit (ltb-false mostDecimals d e)) (λ _. none))
+  -- what comes of a number
+  abbrev outcome : ℕ → Written
+  outcome number = unlessMet number (refusal width) (accepted (text width d v))
+
+  by-outcome : (P : Written → Type 0) → P (refusal width tooManyDecimals) → P (refusal width doesNotFit)
+      → (d ≤ mostDecimals → P (accepted (text width d v))) → P (written width d v)
+  unfolding written writeNumber
+  by-outcome P many none fit = by (leb d mostDecimals) (fits width d v) refl
+    where
+      by : (few fitting : Bool) → leb d mostDecimals ≡ few
+          → P (outcome (firstMet (unless few tooManyDecimals ∷ unless fitting doesNotFit ∷ [])))
+      by false fitting e = many
+      by true false e = none
+      by true true e = fit (leb-true d mostDecimals e)
 
   pub written-length : 6 ≤ width → length (written width d v .chars) ≡ width
   unfolding text
@@ -67,13 +75,13 @@ module _ (width d : ℕ) (v : ℤ) where
 
   -- each of the three outcomes, by what leads to it
   pub many-decimals : mostDecimals < d → written width d v ≡ refusal width tooManyDecimals
-  unfolding written
-  many-decimals many = rw (lt-ltb mostDecimals d many)
+  unfolding written writeNumber
+  many-decimals many = rw (lt-leb d mostDecimals many)
 
   pub fitting : d ≤ mostDecimals → fits width d v ≡ true → written width d v ≡ accepted (text width d v)
-  unfolding written
-  fitting few f = rw (le-ltb mostDecimals d few, f)
+  unfolding written writeNumber
+  fitting few f = rw (le-leb d mostDecimals few, f)
 
   pub not-fitting : d ≤ mostDecimals → fits width d v ≡ false → written width d v ≡ refusal width doesNotFit
-  unfolding written
-  not-fitting few f = rw (le-ltb mostDecimals d few, f)
+  unfolding written writeNumber
+  not-fitting few f = rw (le-leb d mostDecimals few, f)

@@ -1,17 +1,20 @@
 -- What the characters of a number say, where numbers have at most `width` characters: an optional minus first, then digits with
 -- at most one point, at least one digit, nothing else.
 use Prim.Native.Nat.{ℕ, zero, suc, _+_, _-_, _*_, _/_, _^_}
+use mathlib.Core.Path.{_≡_}
 use mathlib.Core.Bool.{Bool, true, false, cond, _&&_}
 use mathlib.Core.List.{List, [], _∷_, _++_}
-use lib.Dec.{leb, ltb, eqb}
+use lib.Dec.{leb, eqb}
+use lib.IntN.{ℤ, pos}
 use lib.ListN.{length, take, drop}
+use Rattle.numbers.specs.Numbers.{unless, firstMet, unlessMet}
 use Rattle.sign.specs.Sign.{signed}
 use Rattle.text.specs.Characters.{minusSign, point, zeroDigit, isDigit}
-use Rattle.text.specs.Numbers.{mostDecimals}
+use Rattle.text.specs.Numbers.{mostDecimals, tooManyDecimals, overSixCharacters, numberOf, valueOf}
 use Rattle.text.specs.declared.Digits.{Digits}
 use Rattle.text.specs.declared.Digits.the-variants.{Number, Other}
 use Rattle.text.specs.declared.Reading.{Reading}
-use Rattle.text.specs.declared.Reading.the-variants.{Value, Decimals, TooLong, NoNumber}
+use Rattle.text.specs.declared.Reading.the-variants.{Value, NoNumber}
 
 abbrev pub allDigits : List ℕ → Bool
 allDigits [] = true
@@ -49,6 +52,20 @@ abbrev pub ofText : ℕ → List ℕ → Reading
 ofText d [] = NoNumber
 ofText d (c ∷ cs) = cond (eqb c minusSign) (ofUnsigned true d cs) (ofUnsigned false d (c ∷ cs))
 
--- too many decimals, then too many characters, then no number: the refusals in their order
-unfoldable pub reading : ℕ → ℕ → List ℕ → Reading
-reading width d cs = cond (ltb mostDecimals d) Decimals (cond (ltb width (length cs)) TooLong (ofText d cs))
+-- the number given back: too many decimals, then too many characters, then text that is no number
+unfoldable pub readNumber : ℕ → ℕ → List ℕ → ℕ
+readNumber width d cs =
+    firstMet
+    (unless (leb d mostDecimals) tooManyDecimals
+    ∷ unless (leb (length cs) width) overSixCharacters
+    ∷ numberOf (ofText d cs)
+    ∷ [])
+
+-- the value that the characters write, 0 where they are refused
+unfoldable pub readValue : ℕ → ℕ → List ℕ → ℤ
+readValue width d cs = unlessMet (readNumber width d cs) (λ number. pos 0) (valueOf (ofText d cs))
+
+-- what is promised of a reading: it has this number and this value
+pub record ReadAs (width d : ℕ) (cs : List ℕ) (r : Reading) : Type 0 where
+  pub number : numberOf r ≡ readNumber width d cs
+  pub value : valueOf r ≡ readValue width d cs

@@ -1,13 +1,13 @@
 -- The characters of a value in a text `width` characters wide: a minus first if it is below zero, zeros on the left, the point
 -- before the last d digits.
 use Prim.Native.Nat.{ℕ, zero, suc, _+_, _-_, _/_, _%_, _^_}
-use mathlib.Core.Bool.{Bool, true, false, cond}
+use mathlib.Core.Bool.{Bool, true, false}
 use mathlib.Core.List.{List, [], _∷_, _++_}
-use lib.Dec.{ltb}
+use lib.Dec.{leb, ltb}
 use lib.IntN.{ℤ, pos, natAbs}
 use lib.ListN.{length, take, drop, replicate}
 use lib.Signed.{ltZ}
-use Rattle.numbers.specs.Numbers.{none}
+use Rattle.numbers.specs.Numbers.{none, unless, firstMet, unlessMet}
 use Rattle.text.specs.Characters.{minusSign, point, zeroDigit}
 use Rattle.text.specs.Numbers.{mostDecimals, doesNotFit, tooManyDecimals}
 use Rattle.text.specs.declared.Written.{Written}
@@ -55,8 +55,14 @@ accepted cs = record { number = none; chars = cs }
 abbrev pub refusal : ℕ → ℕ → Written
 refusal width number = record { number = number; chars = replicate width 0 }
 
--- too many decimals, then no room: the refusals in their order
+-- the number given back: too many decimals, then a value that does not fit
+unfoldable pub writeNumber : ℕ → ℕ → ℤ → ℕ
+writeNumber width d v =
+    firstMet
+    (unless (leb d mostDecimals) tooManyDecimals
+    ∷ unless (fits width d v) doesNotFit
+    ∷ [])
+
+-- the characters of the value, or the refusal
 unfoldable pub written : ℕ → ℕ → ℤ → Written
-written width d v =
-    cond (ltb mostDecimals d) (refusal width tooManyDecimals)
-    (cond (fits width d v) (accepted (text width d v)) (refusal width doesNotFit))
+written width d v = unlessMet (writeNumber width d v) (refusal width) (accepted (text width d v))

@@ -6,7 +6,7 @@ ghost use Prim.Native.Nat.{_+_, _-_, _<_, _≤_, _^_};
 ghost use lib.ListN.{length};
 ghost use Rattle.text.specs.Characters.{isDigit, minusSign};
 ghost use Rattle.text.specs.Numbers.{width, mostDecimals, numberOf, valueOf};
-ghost use Rattle.text.specs.Reading.{digitsFrom, ofParts, ofUnsigned, pointAt, reading};
+ghost use Rattle.text.specs.Reading.{digitsFrom, ofParts, ofUnsigned, pointAt, ReadAs};
 ghost use Rattle.text.specs.Writing.{refusal, room, textOf, written};
 
 // How many characters a number has: as many when it is written, at most as many when it is read.
@@ -148,7 +148,7 @@ fn of_unsigned(minus: bool, decimals: usize, chars: &[u8]) -> Reading
 
 // What the characters say of a value with so many decimals.
 pub fn read(decimals: u8, chars: &[u8]) -> Reading
-    ensures { λ r. ⌜ r ≡ reading width decimals (now (chars .entry)) ⌝ }
+    ensures { λ r. ⌜ ReadAs width decimals (now (chars .entry)) r ⌝ }
 {
     if MOST_DECIMALS < decimals {
         return Reading::Decimals;

@@ -1,33 +1,29 @@
 -- `text::read` meets its contract: each test of the code is one of the definition's, and what comes after the sign is
 -- read once, whether there is one or not.
 -- Assumes nothing.
-use mathlib.Core.Path.{ap, _∙_}
+use mathlib.Core.Path.{refl, ap, _∙_}
 use native.Mathlib.Omega.{arith}
-use borrow.Author.Tests.{lt-ltb, le-ltb}
-use lib.ListN.{length}
 use mir.Val.{boolByte}
-use Rattle.text.specs.Numbers.{width, mostDecimals}
-use Rattle.text.specs.Reading.{ofUnsigned, reading}
+use Rattle.text.specs.Numbers.{width}
+use Rattle.text.specs.Reading.{ofUnsigned}
+use Rattle.text.proofs.Readings.{read-decimals, read-long, read-text}
 use Rattle.text.proofs.Steps.{empty, minusFirst, rest, sign-apart, sign-within}
 use borrow.Author.Needs.{needs}
 use Rattle.text.proofs.read.Statement.{statement}
 use Rattle.text.proofs.read.Tie as tie
 
 returns : tie.Need-returns
-unfolding reading
-returns c = rw (lt-ltb mostDecimals (c .before .before .args .decimals) (omega arith))
+returns c = let s = c .before .before .args in read-decimals width (s .decimals) (s .chars .now) (c .if1 .taken)
 
 returns-2 : tie.Need-returns-2
-unfolding reading
 returns-2 c =
     let s = c .before .before .before .args in
-    rw (le-ltb mostDecimals (s .decimals) (omega arith), lt-ltb width (length (s .chars .now)) (omega arith))
+    read-long width (s .decimals) (s .chars .now) (c .before .if1 .left) (c .if2 .taken)
 
 returns-3 : tie.Need-returns-3
-unfolding reading
 returns-3 c =
     let s = c .before .before .before .before .args in
-    rw (le-ltb mostDecimals (s .decimals) (c .before .before .if1 .left), empty (s .chars .now) (c .if3 .taken))
+    read-text width (s .decimals) (s .chars .now) (c .before .before .if1 .left) (c .before .if2 .left) (rw (empty (s .chars .now) (c .if3 .taken)) refl)
 
 shared-slice-read-minus : tie.Need-shared-slice-read-minus
 shared-slice-read-minus c = search needs
@@ -48,13 +44,12 @@ of-unsigned-requires : tie.Need-of-unsigned-requires
 of-unsigned-requires c κs = search needs
 
 returns-4 : tie.Need-returns-4
-unfolding reading
 returns-4 c =
     let t = c .before .before .before in
     let s = t .before .before .before .before .args in
     let chars = s .chars .now in
     let minus = minusFirst chars in
-    rw (le-ltb mostDecimals (s .decimals) (t .before .before .if1 .left), le-ltb 6 (length chars) (t .before .if2 .left))
+    read-text width (s .decimals) chars (t .before .before .if1 .left) (t .before .if2 .left)
     (c .of-unsigned .ensures ∙ ap (ofUnsigned minus (s .decimals)) (rest chars (boolByte minus)) ∙ sign-apart (s .decimals) chars (omega arith))
 
 pub read-spec : {M : Type 1} → statement M

@@ -5,7 +5,7 @@ use lib.IntN.{pos}
 use Rattle.sign.proofs.Laws.{same}
 use Rattle.text.specs.Numbers.{valueOf}
 use Rattle.text.specs.declared.Reading.{Reading}
-use Rattle.text.proofs.Refusals.{no-value}
+use Rattle.text.proofs.Readings.{no-value}
 use borrow.Author.Needs.{needs}
 use Rattle.text.proofs.Reading.value.Statement.{statement}
 use Rattle.text.proofs.Reading.value.Tie as tie
