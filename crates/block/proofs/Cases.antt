@@ -1,51 +1,28 @@
--- What a verdict is in each case: a law for each test on the way to it.
+-- Which verdict the numbers of a block come to: a law for each way out of `judge`.
 -- Assumes nothing.
 use mathlib.Core.Path.{_≡_, refl, sym, ap, _∙_}
 use mathlib.Core.Bool.{Bool, true, false, cond, _||_}
 use mathlib.Core.List.{List, [], _∷_}
 use Prim.Native.Nat.{ℕ, _+_, _-_, _<_, _≤_}
 use native.Mathlib.Omega.{arith}
-use denote.Enum.Declared.{tagOf}
-use types.Run.{OneOf}
-use borrow.Author.Tests.{lt-ltb, le-ltb, eq-eqb, ne-eqb}
+use borrow.Author.Tests.{lt-ltb, le-leb, lt-leb, eq-eqb, ne-eqb}
+use lib.Dec.{leb}
 use lib.IntN.{ℤ}
 use lib.ListN.{length, getD, take, drop}
 use lib.Seq.{length-take-le, take-add, drop-at}
+use Rattle.numbers.specs.Numbers.{none, unless, firstMet}
 use Rattle.line.specs.Line.{isLineError}
-use Rattle.items.specs.ItemList.{itemAt, found, inRange}
-use Rattle.text.specs.Numbers.{width, numberOf}
-use Rattle.text.specs.Reading.{reading}
+use Rattle.items.specs.ItemList.{items, itemAt, found, inRange}
+use Rattle.items.specs.declared.Found.the-variants.{At, Nothing}
+use Rattle.items.proofs.Lookup.{found-place}
+use Rattle.text.specs.Numbers.{width, overSixCharacters, numberOf}
+use Rattle.text.specs.Reading.{readNumber, readValue, ReadAs}
 use Rattle.text.specs.declared.Reading.{Reading}
-use Rattle.text.specs.declared.Reading.the-variants.{Value, TooLong}
-use Rattle.text.proofs.Reading.{the-type}
-use Rattle.text.proofs.Refusals.{no-value}
-use Rattle.block.specs.Block.{lineError, wrongBcc, underTwo, readOnly, outOfRange, identifierLength, mostKept, dataCharacters, readData, valueFor, forItem, forFound, verdict}
+use Rattle.text.specs.declared.Reading.the-variants.{Value}
+use Rattle.block.specs.Block.{lineError, wrongBcc, underTwo, unknownIdentifier, readOnly, outOfRange, identifierLength, mostKept, blockItem, blockDecimals, dataCharacters, blockValue, blockNumbers, blockNumber, Judges}
 use Rattle.block.specs.declared.Verdict.the-variants.{Store, Refuse}
 
--- ---- before the item is known
-
-module _ (mark : Bool) (bcc count : ℕ) (kept : List ℕ) (c : ℕ) where
-  pub line-error : (mark || isLineError c) ≡ true → Refuse lineError ≡ verdict mark bcc count kept c
-  unfolding verdict
-  line-error h = rw h
-
-  module _ (heard : (mark || isLineError c) ≡ false) where
-    pub wrong-bcc : (c ≡ bcc → ⊥) → Refuse wrongBcc ≡ verdict mark bcc count kept c
-    unfolding verdict
-    wrong-bcc h = rw (heard, ne-eqb c bcc h)
-
-    pub under-two : c ≡ bcc → count < identifierLength → Refuse underTwo ≡ verdict mark bcc count kept c
-    unfolding verdict
-    under-two e h = rw (heard, eq-eqb c bcc e, lt-ltb count identifierLength h)
-
-    pub by-identifier : c ≡ bcc → identifierLength ≤ count
-        → forFound (found (getD kept 0 0) (getD kept 1 0)) count kept ≡ verdict mark bcc count kept c
-    unfolding verdict
-    by-identifier e h = rw (heard, eq-eqb c bcc e, le-ltb count identifierLength h)
-
--- ---- the data characters
-
--- what is kept past the identifier, as many as the count has more
+-- the data characters are what is kept past the identifier, as many as the count has more
 pub data-part : (count : ℕ) (kept : List ℕ) → identifierLength ≤ count → identifierLength ≤ length kept
     → take (count - identifierLength) (drop identifierLength kept) ≡ dataCharacters count kept
 data-part count kept h k =
@@ -54,31 +31,86 @@ data-part count kept h k =
     sym (drop-at (take identifierLength kept) (take more (drop identifierLength kept)) identifierLength (length-take-le identifierLength kept k))
     ∙ ap (drop identifierLength) (sym (take-add identifierLength more kept) ∙ ap (λ (n : ℕ). take n kept) e)
 
-module _ (d count : ℕ) (kept : List ℕ) where
-  pub too-long : mostKept < count → TooLong ≡ readData d count kept
-  too-long h = rw (lt-ltb mostKept count h)
+-- the first two characters name the item at this place of the list
+module _ (kept : List ℕ) (i : ℕ) (e : found (getD kept 0 0) (getD kept 1 0) ≡ At i) where
+  pub place : blockItem kept ≡ i
+  unfolding blockItem
+  place = rw e
 
-  pub all-kept : count ≤ mostKept → reading width d (dataCharacters count kept) ≡ readData d count kept
-  all-kept h = rw (le-ltb mostKept count h)
+  pub listed : blockItem kept < items
+  listed = rw place (found-place (getD kept 0 0) (getD kept 1 0) i e .0)
 
--- ---- a number for an item, from the item's decimals and what was read
+-- 11 to 14 are not met: the block has come to its item
+pub record Named (mark : Bool) (bcc count : ℕ) (kept : List ℕ) (c : ℕ) : Type 0 where
+  pub heard : (mark || isLineError c) ≡ false
+  pub same : c ≡ bcc
+  pub two : identifierLength ≤ count
+  pub item : blockItem kept < items
 
-module _ (i count : ℕ) (kept : List ℕ) {d : ℕ} {read : Reading}
-    (at : d ≡ itemAt i .decimals) (said : read ≡ readData d count kept) where
-  by-reading : valueFor i read ≡ forItem i count kept
-  by-reading = ap (valueFor i) (said ∙ ap (λ (n : ℕ). readData n count kept) at)
+-- nor are 15 and 16: it has a value for the item
+pub record Valued (count : ℕ) (kept : List ℕ) (v : ℤ) : Type 0 where
+  pub whole : count ≤ mostKept
+  pub read : ReadAs width (blockDecimals kept) (dataCharacters count kept) (Value v)
 
-  -- where no value was read
-  pub refused : OneOf (1 ∷ 2 ∷ 3 ∷ []) (tagOf the-type read) → Refuse (numberOf read) ≡ forItem i count kept
-  refused o = no-value (λ (r : Reading). Refuse (numberOf r) ≡ valueFor i r) read o refl refl refl ∙ by-reading
+module _ (mark : Bool) (bcc count : ℕ) (kept : List ℕ) (c : ℕ) where
+  refused : (n : ℕ) → (n ≡ none → ⊥) → blockNumber mark bcc count kept c ≡ n → Judges mark bcc count kept c (Refuse n)
+  refused n h e = let met = ne-eqb n none h in record { number = sym e; item = rw (e, met); value = rw (e, met) }
 
-  module _ (v : ℤ) (e : read ≡ Value v) where
-    value : valueFor i (Value v) ≡ forItem i count kept
-    value = ap (valueFor i) (sym e) ∙ by-reading
+  -- ---- before the item is known
 
-    -- where a value was read: by the item's kind, then by its range
-    pub of-value : (w r : Bool) → itemAt i .writable ≡ w → inRange i v ≡ r
-        → cond w (cond r (Store i v) (Refuse outOfRange)) (Refuse readOnly) ≡ forItem i count kept
-    of-value true true p q = rw (← value, p, q)
-    of-value true false p q = rw (← value, p, q)
-    of-value false r p q = rw (← value, p)
+  pub line-error : (mark || isLineError c) ≡ true → Judges mark bcc count kept c (Refuse lineError)
+  unfolding blockNumber
+  line-error h = refused lineError (λ z. omega arith) (rw h)
+
+  module _ (heard : (mark || isLineError c) ≡ false) where
+    pub wrong-bcc : (c ≡ bcc → ⊥) → Judges mark bcc count kept c (Refuse wrongBcc)
+    unfolding blockNumber
+    wrong-bcc h = refused wrongBcc (λ z. omega arith) (rw (heard, ne-eqb c bcc h))
+
+    pub under-two : c ≡ bcc → count < identifierLength → Judges mark bcc count kept c (Refuse underTwo)
+    unfolding blockNumber
+    under-two e h = refused underTwo (λ z. omega arith) (rw (heard, eq-eqb c bcc e, lt-leb identifierLength count h))
+
+    pub unknown : c ≡ bcc → identifierLength ≤ count → found (getD kept 0 0) (getD kept 1 0) ≡ Nothing
+        → Judges mark bcc count kept c (Refuse unknownIdentifier)
+    unfolding blockNumber blockItem
+    unknown e h n = refused unknownIdentifier (λ z. omega arith) (rw (heard, eq-eqb c bcc e, le-leb identifierLength count h, n))
+
+  -- ---- for its item
+
+  module _ (n : Named mark bcc count kept c) where
+    -- the numbers from the data characters on decide
+    reached : blockNumber mark bcc count kept c ≡ firstMet (drop 4 (blockNumbers mark bcc count kept c))
+    unfolding blockNumber
+    reached = rw (n .heard, eq-eqb c bcc (n .same), le-leb identifierLength count (n .two), lt-ltb (blockItem kept) items (n .item))
+
+    pub too-long : mostKept < count → Judges mark bcc count kept c (Refuse overSixCharacters)
+    too-long h = refused overSixCharacters (λ z. omega arith) (reached ∙ rw (lt-leb count mostKept h))
+
+    pub no-number : count ≤ mostKept → (r : Reading) → ReadAs width (blockDecimals kept) (dataCharacters count kept) r
+        → (n : ℕ) → n ≡ numberOf r → (n ≡ none → ⊥) → Judges mark bcc count kept c (Refuse n)
+    no-number whole r read n e h =
+        refused n h (reached ∙ rw (le-leb count mostKept whole, ← (read .number), ← e, ne-eqb n none h))
+
+    -- ---- with its value
+
+    module _ (v : ℤ) (e : Valued count kept v) where
+      same-value : v ≡ blockValue count kept
+      unfolding blockValue
+      same-value = e .read .value
+
+      -- the item's kind and range decide
+      valued : blockNumber mark bcc count kept c ≡ firstMet (drop 6 (blockNumbers mark bcc count kept c))
+      valued = reached ∙ rw (le-leb count mostKept (e .whole), ← (e .read .number))
+
+      pub read-only : itemAt (blockItem kept) .writable ≡ false → Judges mark bcc count kept c (Refuse readOnly)
+      read-only w = refused readOnly (λ z. omega arith) (valued ∙ rw w)
+
+      module _ (w : itemAt (blockItem kept) .writable ≡ true) where
+        pub out-of-range : inRange (blockItem kept) v ≡ false → Judges mark bcc count kept c (Refuse outOfRange)
+        out-of-range k = refused outOfRange (λ z. omega arith) (valued ∙ rw (w, ← same-value, k))
+
+        pub stored : inRange (blockItem kept) v ≡ true → (i : ℕ) (u : ℤ) → i ≡ blockItem kept → u ≡ v → Judges mark bcc count kept c (Store i u)
+        stored k i u p q =
+            let z : blockNumber mark bcc count kept c ≡ none = valued ∙ rw (w, ← same-value, k) in
+            record { number = sym z; item = p ∙ rw z; value = q ∙ same-value ∙ rw z }

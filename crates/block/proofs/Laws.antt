@@ -1,27 +1,25 @@
--- What a caller may rely on in any verdict: a value is stored only at a place of the list, in a writable item and in its range,
--- and a block is refused only by the numbers 11 to 18.
+-- What a caller may rely on. Where a block meets no number its value may be stored in its item, and else its number is one of 11 to
+-- 18. A verdict tells which of the two it is.
 -- Assumes nothing.
-use mathlib.Core.Path.{_≡_, refl, subst}
+use mathlib.Core.Path.{_≡_, refl, sym, ap, ap₂, _∙_}
 use mathlib.Core.Bool.{Bool, true, false, not, _&&_, _||_}
-use mathlib.Core.List.{List, [], _∷_, _++_}
-use Prim.Native.Nat.{ℕ, suc, _<_, _≤_}
-use borrow.Author.Tests.{not-false, leb-true, le-ltb}
-use lib.Dec.{eqb, leb, ltb}
+use mathlib.Core.List.{List, [], _∷_}
+use Prim.Native.Nat.{ℕ, zero, suc, _<_, _≤_}
+use native.Mathlib.Omega.{arith}
+use borrow.Author.Tests.{leb-true, ltb-true, ltb-false}
+use lib.Dec.{leb, ltb, eqb}
 use lib.IntN.{ℤ}
-use lib.ListN.{length, getD, take, drop}
-use Rattle.numbers.proofs.Tests.{both, chosen}
+use lib.ListN.{getD}
+use Rattle.numbers.specs.Numbers.{none, unless, firstMet}
+use Rattle.numbers.proofs.Tests.{both}
+use Rattle.numbers.proofs.Order.{none-met, each, test-held}
+use Rattle.numbers.proofs.Single.{single}
 use Rattle.line.specs.Line.{isLineError}
-use Rattle.items.specs.ItemList.{items, itemAt, found, inRange}
-use Rattle.items.specs.declared.Found.{Found}
-use Rattle.items.specs.declared.Found.the-variants.{At, Nothing}
-use Rattle.items.proofs.Lookup.{found-place}
-use Rattle.items.proofs.Lists.{passes-at}
-use Rattle.text.specs.Numbers.{width, mostDecimals}
-use Rattle.text.specs.Characters.{minusSign}
-use Rattle.text.specs.Reading.{allDigits, pointAt, ofUnsigned, ofText, reading}
-use Rattle.text.specs.declared.Reading.{Reading}
-use Rattle.text.specs.declared.Reading.the-variants.{Value, TooLong, NoNumber}
-use Rattle.block.specs.Block.{lineError, wrongBcc, underTwo, readOnly, outOfRange, identifierLength, mostKept, refuseIf, dataCharacters, readData, valueFor, forItem, forFound, verdict}
+use Rattle.items.specs.ItemList.{items, itemAt, inRange}
+use Rattle.items.proofs.Lists.{passes-at, line-past}
+use Rattle.text.specs.Numbers.{width, mostDecimals, overSixCharacters, noNumber}
+use Rattle.text.proofs.Readings.{few-numbers}
+use Rattle.block.specs.Block.{lineError, wrongBcc, underTwo, unknownIdentifier, readOnly, outOfRange, identifierLength, mostKept, blockItem, blockDecimals, dataCharacters, blockValue, blockNumbers, blockNumber, Judges}
 use Rattle.block.specs.declared.Verdict.{Verdict}
 use Rattle.block.specs.declared.Verdict.the-variants.{Store, Refuse}
 
@@ -36,74 +34,95 @@ pub record Refusing (n : ℕ) : Type 0 where
   pub least : lineError ≤ n
   pub most : n ≤ outOfRange
 
--- ---- through the definition, from each test to the next
+-- number text takes the decimals of every item, and of what stands past the list
+pub few-decimals : (i : ℕ) → itemAt i .decimals ≤ mostDecimals
+few-decimals i = by (ltb i items) refl
+  where
+    by : (b : Bool) → ltb i items ≡ b → itemAt i .decimals ≤ mostDecimals
+    by true e = leb-true _ _ (passes-at (λ (k : ℕ). leb (itemAt k .decimals) mostDecimals) items i refl (ltb-true i items e))
+    by false e = rw (line-past i (ltb-false i items e)) (omega arith)
 
--- the same of a number as a test, which computes for those that have a name
-numbered : ℕ → Bool
-numbered n = leb lineError n && leb n outOfRange
+-- ---- numbers by their places
 
--- what holds of a verdict, whichever it is
-abbrev Sound : Verdict → Type 0
-Sound (Store i v) = Storable i v
-Sound (Refuse n) = numbered n ≡ true
+-- where none is met, none at any place is
+none-at : (ns : List ℕ) (k : ℕ) → firstMet ns ≡ none → getD ns k none ≡ none
+none-at [] k e = refl
+none-at (n ∷ ns) zero e = none-met n ns e .0
+none-at (n ∷ ns) (suc k) e = none-at ns k (none-met n ns e .1)
 
-sound-if : (fault : Bool) (number : ℕ) (next : Verdict) → numbered number ≡ true → (fault ≡ false → Sound next)
-    → Sound (refuseIf fault number next)
-sound-if true number next r s = r
-sound-if false number next r s = s refl
+-- what holds of each, and of none, holds of the first that is met
+infixr 40 _then_
+data Each (P : ℕ → Type 0) : List ℕ → Type 0 where
+  end : P none → Each P []
+  _then_ : {n : ℕ} {ns : List ℕ} → P n → Each P ns → Each P (n ∷ ns)
 
--- number text takes the decimals of every item
-pub few-decimals : (i : ℕ) → i < items → itemAt i .decimals ≤ mostDecimals
-few-decimals i h = leb-true _ _ (passes-at (λ (k : ℕ). leb (itemAt k .decimals) mostDecimals) items i refl h)
+first-each : (P : ℕ → Type 0) (ns : List ℕ) → Each P ns → P (firstMet ns)
+first-each P [] (end p) = p
+first-each P (n ∷ ns) (p then e) = each n ns P p (first-each P ns e)
 
--- so what is read for an item is a value, too long or no number
-module _ (P : Reading → Type 0) (value : (v : ℤ) → P (Value v)) (long : P TooLong) (none : P NoNumber) where
-  of-unsigned : (minus : Bool) (d : ℕ) (cs : List ℕ) → P (ofUnsigned minus d cs)
-  of-unsigned minus d cs =
-      let digits = take (pointAt cs) cs ++ drop (suc (pointAt cs)) cs in
-      chosen P (allDigits digits && leb 1 (length digits)) (λ _. value _) (λ _. none)
+-- ---- the number of a block
 
-  of-text : (d : ℕ) (cs : List ℕ) → P (ofText d cs)
-  of-text d [] = none
-  of-text d (c ∷ cs) = chosen P (eqb c minusSign) (λ _. of-unsigned true d cs) (λ _. of-unsigned false d (c ∷ cs))
+-- a number of a block, if it is met
+abbrev IfMet : ℕ → Type 0
+IfMet n = (n ≡ none → ⊥) → Refusing n
 
-  of-data : (d count : ℕ) (kept : List ℕ) → d ≤ mostDecimals → P (readData d count kept)
-  unfolding reading
-  of-data d count kept few =
-      let cs = dataCharacters count kept in
-      chosen P (ltb mostKept count) (λ _. long)
-      (λ _. rw (le-ltb mostDecimals d few) (chosen P (ltb width (length cs)) (λ _. long) (λ _. of-text d cs)))
+not-met : IfMet none
+not-met h = absurd (h refl)
 
-sound-item : (i count : ℕ) (kept : List ℕ) → i < items → Sound (forItem i count kept)
-unfolding numbered
-sound-item i count kept h =
-    of-data (λ (r : Reading). Sound (valueFor i r))
-    (λ v. sound-if (not (itemAt i .writable)) readOnly _ refl
-    (λ w. sound-if (not (inRange i v)) outOfRange _ refl
-    (λ r. record { listed = h; writable = not-false _ w; ranged = not-false _ r })))
-    refl refl (itemAt i .decimals) count kept (few-decimals i h)
+numbered : (n : ℕ) → (leb lineError n && leb n outOfRange) ≡ true → IfMet n
+numbered n e h =
+    let p = both (leb lineError n) (leb n outOfRange) e in record { least = leb-true lineError n (p .0); most = leb-true n outOfRange (p .1) }
 
-sound-found : (a b : ℕ) (f : Found) (count : ℕ) (kept : List ℕ) → found a b ≡ f → Sound (forFound f count kept)
-unfolding numbered
-sound-found a b (At i) count kept e = sound-item i count kept (found-place a b i e .0)
-sound-found a b Nothing count kept e = refl
-
--- ---- what the caller may rely on
+tested : (test : Bool) (n : ℕ) → (leb lineError n && leb n outOfRange) ≡ true → IfMet (unless test n)
+tested true n e = not-met
+tested false n e = numbered n e
 
 module _ (mark : Bool) (bcc count : ℕ) (kept : List ℕ) (c : ℕ) where
-  sound : Sound (verdict mark bcc count kept c)
-  unfolding verdict numbered
-  sound =
-      sound-if (mark || isLineError c) lineError _ refl
-      (λ h. sound-if (not (eqb c bcc)) wrongBcc _ refl
-      (λ e. sound-if (ltb count identifierLength) underTwo _ refl
-      (λ n. sound-found (getD kept 0 0) (getD kept 1 0) _ count kept refl)))
+  pub block-stores : blockNumber mark bcc count kept c ≡ none → Storable (blockItem kept) (blockValue count kept)
+  unfolding blockNumber
+  block-stores e =
+      let ns = blockNumbers mark bcc count kept c in
+      record {
+        listed = ltb-true _ _ (test-held _ unknownIdentifier (omega arith) (none-at ns 3 e));
+        writable = test-held _ readOnly (omega arith) (none-at ns 6 e);
+        ranged = test-held _ outOfRange (omega arith) (none-at ns 7 e);
+      }
 
-  pub verdict-stores : (i : ℕ) (v : ℤ) → verdict mark bcc count kept c ≡ Store i v → Storable i v
-  verdict-stores i v e = subst Sound e sound
+  pub block-refuses : (blockNumber mark bcc count kept c ≡ none → ⊥) → Refusing (blockNumber mark bcc count kept c)
+  unfolding blockNumber
+  block-refuses =
+      first-each IfMet (blockNumbers mark bcc count kept c)
+      (tested (not (mark || isLineError c)) lineError refl
+      then tested (eqb c bcc) wrongBcc refl
+      then tested (leb identifierLength count) underTwo refl
+      then tested (ltb (blockItem kept) items) unknownIdentifier refl
+      then tested (leb count mostKept) overSixCharacters refl
+      then few-numbers IfMet not-met (numbered noNumber refl) (numbered overSixCharacters refl) width (blockDecimals kept) (dataCharacters count kept) (few-decimals (blockItem kept))
+      then tested (itemAt (blockItem kept) .writable) readOnly refl
+      then tested (inRange (blockItem kept) (blockValue count kept)) outOfRange refl
+      then end not-met)
 
-  pub verdict-refuses : (n : ℕ) → verdict mark bcc count kept c ≡ Refuse n → Refusing n
-  unfolding numbered
-  verdict-refuses n e =
-      let p = both (leb lineError n) (leb n outOfRange) (subst Sound e sound) in
-      record { least = leb-true lineError n (p .0); most = leb-true n outOfRange (p .1) }
+  -- ---- what a verdict tells of it
+
+  -- a value to store: no number is met, and item and value are the block's
+  pub stores : (i : ℕ) (v : ℤ) → Judges mark bcc count kept c (Store i v)
+      → (blockNumber mark bcc count kept c ≡ none) × (i ≡ blockItem kept) × (v ≡ blockValue count kept)
+  stores i v j = let z = sym (j .number) in (z, rw z at (j .item), rw z at (j .value))
+
+  -- a refusal: the block's number, which is met
+  pub refuses : (n : ℕ) → Judges mark bcc count kept c (Refuse n) → (blockNumber mark bcc count kept c ≡ n) × (n ≡ none → ⊥)
+  refuses n j = (sym (j .number), met)
+    where
+      met : n ≡ none → ⊥
+      met e =
+          let z : blockNumber mark bcc count kept c ≡ none = sym (j .number) ∙ e in
+          let past = rw z at (j .item) in
+          let s = block-stores z .listed in
+          omega arith
+
+  -- so two verdicts on one block are the same
+  pub one-verdict : (r s : Verdict) → Judges mark bcc count kept c r → Judges mark bcc count kept c s → r ≡ s
+  one-verdict (Store i v) (Store k w) p q = ap₂ Store (single (p .item) (q .item)) (single (p .value) (q .value))
+  one-verdict (Refuse n) (Refuse m) p q = ap Refuse (single (p .number) (q .number))
+  one-verdict (Store i v) (Refuse m) p q = absurd (refuses m q .1 (single (q .number) (p .number)))
+  one-verdict (Refuse n) (Store k w) p q = absurd (refuses n p .1 (single (p .number) (q .number)))

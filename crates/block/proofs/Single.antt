@@ -1,13 +1,10 @@
--- Two verdicts that meet the promise of one call are the same verdict.
+-- The one public function of this crate promises one outcome.
 -- Assumes nothing.
-use mathlib.Core.Path.{_≡_}
-use mathlib.Core.Bool.{Bool}
-use mathlib.Core.List.{List}
-use Prim.Native.Nat.{ℕ}
-use Rattle.numbers.proofs.Single.{single}
-use Rattle.block.specs.Block.{verdict}
-use Rattle.block.specs.declared.Verdict.{Verdict}
+use mathlib.Core.Path.{refl}
+use Rattle.numbers.specs.Promise.{OneOutcome}
+use Rattle.numbers.proofs.Single.{_&_}
+use Rattle.block.proofs.Laws.{one-verdict}
+use Rattle.block.proofs as block
 
-pub judge-single : (mark : Bool) (bcc count : ℕ) (kept : List ℕ) (c : ℕ) {r s : Verdict} → r ≡ verdict mark bcc count kept c
-    → s ≡ verdict mark bcc count kept c → r ≡ s
-judge-single mark bcc count kept c = single
+pub judge : OneOutcome block.judge.ended block.judge.Reads.Asked block.judge.Reads.Post
+judge = record { asksNothing = λ κs a. tt; single = λ κs a o u p q. one-verdict _ _ _ _ _ (o .0) (u .0) p q & refl }

@@ -1,17 +1,17 @@
--- What becomes of a whole block of the RKC line: the refusals of document 01 in their order, 11 to 18, or else a value to store.
+-- What becomes of a whole block of the RKC line: the number that refuses it, the first of document 01's 11 to 18 that is met, or
+-- else the item that takes a value, and that value.
 use Prim.Native.Nat.{ℕ, _+_}
-use mathlib.Core.Bool.{Bool, cond, not, _||_}
-use mathlib.Core.List.{List}
-use lib.Dec.{eqb, ltb}
+use mathlib.Core.Path.{_≡_}
+use mathlib.Core.Bool.{Bool, not, _||_}
+use mathlib.Core.List.{List, [], _∷_}
+use lib.Dec.{eqb, leb, ltb}
+use lib.IntN.{ℤ, pos}
 use lib.ListN.{getD, take, drop}
+use Rattle.numbers.specs.Numbers.{none, unless, firstMet, unlessMet}
 use Rattle.line.specs.Line.{isLineError}
-use Rattle.items.specs.ItemList.{itemAt, found, inRange}
-use Rattle.items.specs.declared.Found.{Found}
-use Rattle.items.specs.declared.Found.the-variants.{At, Nothing}
-use Rattle.text.specs.Numbers.{width, numberOf}
-use Rattle.text.specs.Reading.{reading}
-use Rattle.text.specs.declared.Reading.{Reading}
-use Rattle.text.specs.declared.Reading.the-variants.{Value, Decimals, TooLong, NoNumber}
+use Rattle.items.specs.ItemList.{items, itemAt, found, placeFound, inRange}
+use Rattle.text.specs.Numbers.{width, overSixCharacters}
+use Rattle.text.specs.Reading.{readNumber, readValue}
 use Rattle.block.specs.declared.Verdict.{Verdict}
 use Rattle.block.specs.declared.Verdict.the-variants.{Store, Refuse}
 
@@ -41,42 +41,60 @@ identifierLength = 2
 abbrev pub mostKept : ℕ
 mostKept = identifierLength + width
 
--- a fault refuses the block by its number; without it the next test decides
-abbrev pub refuseIf : Bool → ℕ → Verdict → Verdict
-refuseIf fault number next = cond fault (Refuse number) next
+-- ---- what a block says, from the count of its characters and those kept
+
+-- the place of the item that the first two name, past the list where they name none
+unfoldable pub blockItem : List ℕ → ℕ
+blockItem kept = placeFound (found (getD kept 0 0) (getD kept 1 0))
+
+-- the decimals that its number text is read with
+abbrev pub blockDecimals : List ℕ → ℕ
+blockDecimals kept = itemAt (blockItem kept) .decimals
 
 -- the data characters: the kept ones after the identifier, up to the count
 abbrev pub dataCharacters : ℕ → List ℕ → List ℕ
 dataCharacters count kept = drop identifierLength (take count kept)
 
--- what they say of a value with d decimals: over six of them came where the block has more than are kept
-abbrev pub readData : ℕ → ℕ → List ℕ → Reading
-readData d count kept = cond (ltb mostKept count) TooLong (reading width d (dataCharacters count kept))
+-- the value that they write
+unfoldable pub blockValue : ℕ → List ℕ → ℤ
+blockValue count kept = readValue width (blockDecimals kept) (dataCharacters count kept)
 
--- what a reading comes to for the item at a place: 15 and 16 by the reading's own number, then 17, then 18
-abbrev pub valueFor : ℕ → Reading → Verdict
-valueFor i (Value v) =
-    refuseIf (not (itemAt i .writable)) readOnly
-    (refuseIf (not (inRange i v)) outOfRange
-    (Store i v))
-valueFor i Decimals = Refuse (numberOf Decimals)
-valueFor i TooLong = Refuse (numberOf TooLong)
-valueFor i NoNumber = Refuse (numberOf NoNumber)
+-- ---- its number
 
--- the data characters are read with the item's decimals
-abbrev pub forItem : ℕ → ℕ → List ℕ → Verdict
-forItem i count kept = valueFor i (readData (itemAt i .decimals) count kept)
+-- The numbers that a block can meet, in the order in which they are tried: from whether it was marked, the BCC of its text and ETX,
+-- the count of its characters, those kept, and what was heard in the BCC's place.
+abbrev pub blockNumbers : Bool → ℕ → ℕ → List ℕ → ℕ → List ℕ
+blockNumbers mark bcc count kept c =
+    unless (not (mark || isLineError c)) lineError
+    ∷ unless (eqb c bcc) wrongBcc
+    ∷ unless (leb identifierLength count) underTwo
+    ∷ unless (ltb (blockItem kept) items) unknownIdentifier
+    ∷ unless (leb count mostKept) overSixCharacters
+    ∷ readNumber width (blockDecimals kept) (dataCharacters count kept)
+    ∷ unless (itemAt (blockItem kept) .writable) readOnly
+    ∷ unless (inRange (blockItem kept) (blockValue count kept)) outOfRange
+    ∷ []
 
--- 14 where no item has the identifier
-abbrev pub forFound : Found → ℕ → List ℕ → Verdict
-forFound Nothing count kept = Refuse unknownIdentifier
-forFound (At i) count kept = forItem i count kept
+unfoldable pub blockNumber : Bool → ℕ → ℕ → List ℕ → ℕ → ℕ
+blockNumber mark bcc count kept c = firstMet (blockNumbers mark bcc count kept c)
 
--- The verdict on a block: whether it was marked, the BCC of its text and ETX, the count of its characters, those kept, and what was
--- heard in the BCC's place. 11, 12 and 13, and then the item that its first two characters name.
-unfoldable pub verdict : Bool → ℕ → ℕ → List ℕ → ℕ → Verdict
-verdict mark bcc count kept c =
-    refuseIf (mark || isLineError c) lineError
-    (refuseIf (not (eqb c bcc)) wrongBcc
-    (refuseIf (ltb count identifierLength) underTwo
-    (forFound (found (getD kept 0 0) (getD kept 1 0)) count kept)))
+-- ---- the verdict
+
+-- its number; the place of its item, past the list where it has none; its value, 0 where it has none
+abbrev pub verdictNumber : Verdict → ℕ
+verdictNumber (Store i v) = none
+verdictNumber (Refuse n) = n
+
+abbrev pub verdictItem : Verdict → ℕ
+verdictItem (Store i v) = i
+verdictItem (Refuse n) = items
+
+abbrev pub verdictValue : Verdict → ℤ
+verdictValue (Store i v) = v
+verdictValue (Refuse n) = pos 0
+
+-- what is promised of a verdict: it has the block's number, and the block's item and value where no number is met
+pub record Judges (mark : Bool) (bcc count : ℕ) (kept : List ℕ) (c : ℕ) (r : Verdict) : Type 0 where
+  pub number : verdictNumber r ≡ blockNumber mark bcc count kept c
+  pub item : verdictItem r ≡ unlessMet (blockNumber mark bcc count kept c) (λ n. items) (blockItem kept)
+  pub value : verdictValue r ≡ unlessMet (blockNumber mark bcc count kept c) (λ n. pos 0) (blockValue count kept)

@@ -2,18 +2,20 @@
 -- and what is promised of each way out of `read`.
 -- Assumes nothing.
 use mathlib.Core.Path.{_≡_, refl, sym, ap, ap₂, _∙_}
-use mathlib.Core.Bool.{cond}
-use mathlib.Core.List.{List, [], _∷_}
-use Prim.Native.Nat.{ℕ, _<_, _≤_}
+use mathlib.Core.Bool.{Bool, true, false, cond, _&&_}
+use mathlib.Core.List.{List, [], _∷_, _++_}
+use Prim.Native.Nat.{ℕ, suc, _<_, _≤_}
 use denote.Enum.Declared.{tagOf}
 use types.Run.{OneOf, miss}
 use borrow.Author.Tests.{le-leb, lt-leb}
-use lib.Dec.{eqb}
+use lib.Dec.{eqb, leb}
 use lib.IntN.{ℤ, pos}
-use lib.ListN.{length}
-use Rattle.numbers.specs.Numbers.{none, firstMet, unlessMet}
-use Rattle.text.specs.Numbers.{mostDecimals, tooManyDecimals, overSixCharacters, numberOf, valueOf}
-use Rattle.text.specs.Reading.{ofText, readNumber, readValue, ReadAs}
+use lib.ListN.{length, take, drop}
+use Rattle.numbers.specs.Numbers.{none, unless, firstMet, unlessMet}
+use Rattle.numbers.proofs.Tests.{chosen}
+use Rattle.text.specs.Characters.{minusSign}
+use Rattle.text.specs.Numbers.{mostDecimals, tooManyDecimals, overSixCharacters, noNumber, numberOf, valueOf}
+use Rattle.text.specs.Reading.{allDigits, pointAt, ofUnsigned, ofText, readNumber, readValue, ReadAs}
 use Rattle.text.specs.declared.Reading.{Reading}
 use Rattle.text.specs.declared.Reading.the-variants.{Value, Decimals, TooLong, NoNumber}
 use Rattle.text.proofs.Reading.{the-type}
@@ -45,6 +47,14 @@ no-value P (Value v) o d t n = absurd (miss (1 ∷ 2 ∷ 3 ∷ []) 0 tt o)
 no-value P Decimals o d t n = d
 no-value P TooLong o d t n = t
 no-value P NoNumber o d t n = n
+
+-- the promise of a reading is that of an equal one, of equal characters at equal decimals
+pub read-by : {width d k : ℕ} {cs ds : List ℕ} {r s : Reading} → d ≡ k → cs ≡ ds → r ≡ s → ReadAs width d cs r → ReadAs width k ds s
+read-by {width} p q e a =
+    record {
+      number = ap numberOf (sym e) ∙ a .number ∙ ap₂ (readNumber width) p q;
+      value = ap valueOf (sym e) ∙ a .value ∙ ap₂ (readValue width) p q;
+    }
 
 -- ---- the ways out of `read`
 
@@ -83,3 +93,26 @@ module _ (width d : ℕ) (cs : List ℕ) where
           number = ap numberOf e ∙ rw (f, l) (number-last (ofText d cs));
           value = ap valueOf e ∙ rw (f, l) (value-last (ofText d cs));
         }
+
+-- ---- the numbers of a reading
+
+module _ (P : ℕ → Type 0) (value : P none) (no-number : P noNumber) where
+  of-unsigned : (minus : Bool) (d : ℕ) (cs : List ℕ) → P (numberOf (ofUnsigned minus d cs))
+  of-unsigned minus d cs =
+      let digits = take (pointAt cs) cs ++ drop (suc (pointAt cs)) cs in
+      chosen (λ (r : Reading). P (numberOf r)) (allDigits digits && leb 1 (length digits)) (λ _. value) (λ _. no-number)
+
+  of-text : (d : ℕ) (cs : List ℕ) → P (numberOf (ofText d cs))
+  of-text d [] = no-number
+  of-text d (c ∷ cs) =
+      chosen (λ (r : Reading). P (numberOf r)) (eqb c minusSign) (λ _. of-unsigned true d cs) (λ _. of-unsigned false d (c ∷ cs))
+
+  -- with few decimals they are none, 15 and 16
+  pub few-numbers : P overSixCharacters → (width d : ℕ) (cs : List ℕ) → d ≤ mostDecimals → P (readNumber width d cs)
+  unfolding readNumber
+  few-numbers long width d cs few =
+      rw (le-leb d mostDecimals few) (by (leb (length cs) width))
+    where
+      by : (short : Bool) → P (firstMet (unless short overSixCharacters ∷ numberOf (ofText d cs) ∷ []))
+      by true = rw (← (number-last (ofText d cs))) (of-text d cs)
+      by false = long
