@@ -10,11 +10,11 @@ use Rattle.numbers.proofs.Single.{single, _&_}
 use Rattle.table.specs.Table.{startNumber, startTable, putNumber, putTable}
 use Rattle.numbers.proofs.Single.{lent-single}
 use Rattle.text.specs.Numbers.{width}
-use Rattle.text.specs.Reading.{reading}
+use Rattle.text.specs.Reading.{readNumber, readValue}
 use Rattle.rkc.specs.Outcome.{Step, received, idled}
 use Rattle.state.specs.State.{unpacked}
 use Rattle.panel.specs.Calls.{linkStartNumber, linkStart, textNumber, textLeft}
-use Rattle.panel.specs.Promise.{LentBytes, ReadText, StepLeft, ByteLeft}
+use Rattle.panel.specs.Promise.{LentBytes, StepLeft, ByteLeft}
 use Rattle.panel.proofs.Frames.{result-single}
 use Rattle.panel.proofs as panel
 
@@ -63,9 +63,10 @@ pub put-single : (t : List ℤ) (item : ℕ) (value : ℤ) {r q : ℕ} {u w : Li
     → Lent (putNumber t item value) (putTable t item value) q w → (r ≡ q) × (u ≡ w)
 put-single t item value = lent-single
 
-pub read-text-single : (decimals : ℕ) (chars : List ℕ) {r q : ℕ} {u w : ℤ} → ReadText (reading width decimals chars) r u
-    → ReadText (reading width decimals chars) q w → (r ≡ q) × (u ≡ w)
-read-text-single decimals chars x y = (single (x .given) (y .given), single (x .left) (y .left))
+pub read-text-single : (decimals : ℕ) (chars : List ℕ) {r q : ℕ} {u w : ℤ}
+    → Lent (readNumber width decimals chars) (readValue width decimals chars) r u
+    → Lent (readNumber width decimals chars) (readValue width decimals chars) q w → (r ≡ q) × (u ≡ w)
+read-text-single decimals chars = lent-single
 
 pub write-text-single : (decimals : ℕ) (value : ℤ) (chars : List ℕ) {r q : ℕ} {u w : List ℕ}
     → LentBytes (textNumber decimals value chars) (textLeft decimals value chars) r u

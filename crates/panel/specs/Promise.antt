@@ -8,8 +8,6 @@ use lib.ListN.{length}
 use lib.Seq.{sets}
 use Rattle.rkc.specs.declared.Stepped.{Stepped}
 use Rattle.rkc.specs.Outcome.{Step, Outcome}
-use Rattle.text.specs.declared.Reading.{Reading}
-use Rattle.text.specs.Numbers.{numberOf, valueOf}
 use Rattle.state.specs.State.{stateBytes}
 use Rattle.panel.specs.Calls.{result, isCallFault, heldAfter}
 
@@ -17,11 +15,6 @@ use Rattle.panel.specs.Calls.{result, isCallFault, heldAfter}
 pub record LentBytes (number : ℕ) (bytes : List ℕ) (r : ℕ) (after : List ℕ) : Type 0 where
   pub given : r ≡ number
   pub left : after ≡ bytes
-
--- it gives back the number of this reading, and leaves its value, 0 where the text was refused
-pub record ReadText (reading : Reading) (r : ℕ) (value : ℤ) : Type 0 where
-  pub given : r ≡ numberOf reading
-  pub left : value ≡ valueOf reading
 
 -- a bound that no reply of either line is over, so that its length has room in a result
 abbrev pub longestReply : ℕ

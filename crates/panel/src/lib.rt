@@ -7,12 +7,12 @@ ghost use lib.Seq.{sets};
 ghost use Rattle.numbers.specs.Promise.{Lent};
 ghost use Rattle.table.specs.Table.{startNumber, startTable, putNumber, putTable};
 ghost use Rattle.text.specs.Numbers.{width};
-ghost use Rattle.text.specs.Reading.{reading};
+ghost use Rattle.text.specs.Reading.{readNumber, readValue};
 ghost use Rattle.rkc.specs.Outcome.{received, idled};
 ghost use Rattle.state.specs.State.{unpacked};
 ghost use Rattle.rtu.specs.Promise.{Acts};
 ghost use Rattle.panel.specs.Calls.{result, answerIn, isCallFault, linkStartNumber, linkStart, textNumber, textLeft};
-ghost use Rattle.panel.specs.Promise.{LentBytes, ReadText, longestReply, Holdable, Held, StepLeft, ByteLeft};
+ghost use Rattle.panel.specs.Promise.{LentBytes, longestReply, Holdable, Held, StepLeft, ByteLeft};
 use rkc::Link;
 use rkc::Stepped;
 
@@ -123,7 +123,8 @@ pub extern "C" fn vb_put(table: &mut [i32], item: u32, value: i32) -> u32
 // Number text is read.
 #[no_mangle]
 pub extern "C" fn vb_read_text(decimals: u8, chars: &[u8], value: &mut i32) -> u32
-    ensures { λ r. ⌜ ReadText (reading width decimals (now (chars .entry))) r (now (value .exit)) ⌝ }
+    ensures { λ r. ⌜ Lent (readNumber width decimals (now (chars .entry)))
+        (readValue width decimals (now (chars .entry))) r (now (value .exit)) ⌝ }
 {
     let read = text::read(decimals, chars);
     *value = read.value();

@@ -6,10 +6,10 @@ use lib.Count.{ones}
 use Rattle.items.specs.ItemList.{found, inRange}
 use Rattle.table.specs.Table.{tableFault, startValues, stored}
 use Rattle.line.specs.Line.{keeps, heard, sent, bccFrom}
-use Rattle.text.specs.Reading.{reading}
-use Rattle.text.specs.Writing.{fits, text, written}
+use Rattle.text.specs.Reading.{readNumber, readValue}
+use Rattle.text.specs.Writing.{fits, text, writeNumber, written}
 use Rattle.phases.specs.Decision.{decided}
-use Rattle.block.specs.Block.{verdict}
+use Rattle.block.specs.Block.{blockItem, blockValue, blockNumber}
 use Rattle.rkc.specs.State.{used, inLimits, withMore, withEnd}
 use Rattle.rkc.specs.Outcome.{performed, callFault, byteFault, received}
 use Rattle.crc.specs.Crc.{shift, shifts, crcFrom, crc16Of, framed, isRight}
@@ -19,5 +19,5 @@ use Rattle.rtu.specs.Frame as rtu
 use Rattle.starred.specs.Starred.{Example, table, start, after, blockBytes, placeOf, unlessNumber, ofBlock, ofWritten, ofFrame, made}
 
 pub starred : map (λ (e : Example). made (e .deed)) table ≡ map (λ (e : Example). e .result) table
-unfolding ones found inRange tableFault startValues stored keeps heard sent bccFrom reading fits text written decided verdict used inLimits withMore withEnd performed callFault byteFault received shift shifts crcFrom crc16Of framed isRight loopbackFault loopingBack obeying acted rtu.callFault rtu.frameFault rtu.refusal rtu.actedOn start after blockBytes placeOf unlessNumber ofBlock ofWritten ofFrame made
+unfolding ones found inRange tableFault startValues stored keeps heard sent bccFrom readNumber readValue fits text writeNumber written decided blockItem blockValue blockNumber used inLimits withMore withEnd performed callFault byteFault received shift shifts crcFrom crc16Of framed isRight loopbackFault loopingBack obeying acted rtu.callFault rtu.frameFault rtu.refusal rtu.actedOn start after blockBytes placeOf unlessNumber ofBlock ofWritten ofFrame made
 starred = refl

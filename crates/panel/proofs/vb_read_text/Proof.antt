@@ -1,8 +1,7 @@
 -- `panel::vb_read_text` meets its contract: number and value are those of the reading. Assumes nothing.
 use borrow.Author.Needs.{needs}
-use mathlib.Core.Path.{ap, _∙_}
+use mathlib.Core.Path.{_∙_}
 use Rattle.sign.proofs.Laws.{same}
-use Rattle.text.specs.Numbers.{numberOf, valueOf}
 use Rattle.panel.proofs.vb_read_text.Statement.{statement}
 use Rattle.panel.proofs.vb_read_text.Tie as tie
 
@@ -23,8 +22,8 @@ returns c =
     let read = c .before .before .read .ensures in
     let value = c .before .value in
     record {
-      given = c .number .ensures ∙ ap numberOf read;
-      left = same (value .result) (value .ok) ∙ value .ensures ∙ ap valueOf read;
+      given = c .number .ensures ∙ read .number;
+      left = same (value .result) (value .ok) ∙ value .ensures ∙ read .value;
     }
 
 pub vb-read-text-spec : {M : Type 1} → statement M
