@@ -1,22 +1,21 @@
 -- Which verdict the numbers of a block come to: a law for each way out of `judge`.
 -- Assumes nothing.
-use mathlib.Core.Path.{_≡_, refl, sym, ap, _∙_}
-use mathlib.Core.Bool.{Bool, true, false, cond, _||_}
-use mathlib.Core.List.{List, [], _∷_}
+use mathlib.Core.Path.{_≡_, sym, ap, _∙_}
+use mathlib.Core.Bool.{Bool, true, false, _||_}
+use mathlib.Core.List.{List}
 use Prim.Native.Nat.{ℕ, _+_, _-_, _<_, _≤_}
 use native.Mathlib.Omega.{arith}
 use borrow.Author.Tests.{lt-ltb, le-leb, lt-leb, eq-eqb, ne-eqb}
-use lib.Dec.{leb}
 use lib.IntN.{ℤ}
 use lib.ListN.{length, getD, take, drop}
 use lib.Seq.{length-take-le, take-add, drop-at}
-use Rattle.numbers.specs.Numbers.{none, unless, firstMet}
+use Rattle.numbers.specs.Numbers.{none, firstMet}
 use Rattle.line.specs.Line.{isLineError}
 use Rattle.items.specs.ItemList.{items, itemAt, found, inRange}
 use Rattle.items.specs.declared.Found.the-variants.{At, Nothing}
 use Rattle.items.proofs.Lookup.{found-place}
 use Rattle.text.specs.Numbers.{width, overSixCharacters, numberOf}
-use Rattle.text.specs.Reading.{readNumber, readValue, ReadAs}
+use Rattle.text.specs.Reading.{ReadAs}
 use Rattle.text.specs.declared.Reading.{Reading}
 use Rattle.text.specs.declared.Reading.the-variants.{Value}
 use Rattle.block.specs.Block.{lineError, wrongBcc, underTwo, unknownIdentifier, readOnly, outOfRange, identifierLength, mostKept, blockItem, blockDecimals, dataCharacters, blockValue, blockNumbers, blockNumber, Judges}

@@ -12,17 +12,17 @@ pub enum Verdict {
 }
 
 // The numbers that refuse a block; those of its number text are text's.
-const LINE_ERROR: u8 = 11;
+pub const LINE_ERROR: u8 = 11;
 
-const WRONG_BCC: u8 = 12;
+pub const WRONG_BCC: u8 = 12;
 
-const UNDER_TWO: u8 = 13;
+pub const UNDER_TWO: u8 = 13;
 
-const UNKNOWN_IDENTIFIER: u8 = 14;
+pub const UNKNOWN_IDENTIFIER: u8 = 14;
 
-const READ_ONLY: u8 = 17;
+pub const READ_ONLY: u8 = 17;
 
-const OUT_OF_RANGE: u8 = 18;
+pub const OUT_OF_RANGE: u8 = 18;
 
 // How many characters an identifier has, and how many of a block are kept: the identifier and six more.
 const IDENTIFIER_LENGTH: u8 = 2;

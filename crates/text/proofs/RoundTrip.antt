@@ -6,11 +6,12 @@ use mathlib.Core.Bool.{Bool, true, false}
 use mathlib.Core.List.{List, [], _∷_, _++_, append-nil}
 use Prim.Native.Nat.{ℕ, zero, suc, _-_, _^_, _<_, _≤_}
 use native.Mathlib.Nat.{mod-eq-of-lt, mul-div-cancel, one-le-pow}
+use native.Mathlib.Numerals.{add-one}
 use native.Mathlib.Omega.{arith}
 use borrow.Author.Tests.{le-leb, ltb-true, ne-eqb}
-use lib.IntN.{ℤ, pos, natAbs}
+use lib.IntN.{pos, natAbs}
 use lib.ListN.{length, getD, take, drop, length-take, length-drop, take-append-drop, drop-of-length-le}
-use lib.Seq.{take-at, take-length}
+use lib.Seq.{take-length, take-append-seam, drop-append-add}
 use lib.Signed.{ltZ}
 use Rattle.sign.specs.Sign.{signed}
 use Rattle.sign.proofs.Laws.{by-sign}
@@ -38,12 +39,9 @@ point-nowhere : (xs : List ℕ) → allDigits xs ≡ true → pointAt xs ≡ len
 point-nowhere [] a = refl
 point-nowhere (x ∷ xs) a = let p = both (isDigit x) (allDigits xs) a in rw (ne-eqb x point (no-point x (p .0)), point-nowhere xs (p .1))
 
-drop-past : (xs ys : List ℕ) (y : ℕ) → drop (suc (length xs)) (xs ++ (y ∷ ys)) ≡ ys
-drop-past [] ys y = refl
-drop-past (x ∷ xs) ys y = drop-past xs ys y
-
 with-point : (minus : Bool) (d : ℕ) (xs ys : List ℕ) → allDigits xs ≡ true → ofUnsigned minus d (xs ++ (point ∷ ys)) ≡ ofParts minus d xs ys
-with-point minus d xs ys a = rw (point-after xs ys a, take-at xs (point ∷ ys) (length xs) refl, drop-past xs ys point)
+with-point minus d xs ys a =
+    rw (point-after xs ys a, take-append-seam xs (point ∷ ys), ← (add-one (length xs)), drop-append-add xs (point ∷ ys) 1)
 
 without-point : (minus : Bool) (d : ℕ) (xs : List ℕ) → allDigits xs ≡ true → ofUnsigned minus d xs ≡ ofParts minus d xs []
 without-point minus d xs a = rw (point-nowhere xs a, take-length xs, drop-of-length-le xs {i = suc (length xs)} (omega arith))

@@ -8,12 +8,12 @@ use native.Mathlib.Nat.{zero-add, pow-le-pow-right, mul-le-mul-left, div-le-self
 use native.Mathlib.Omega.{arith}
 use borrow.Author.Tests.{eq-eqb, ne-eqb, le-leb}
 use lib.Dec.{leb, eqb}
-use lib.ListN.{length, getD, take, drop, length-append, length-drop, drop-of-length-le}
+use lib.ListN.{length, getD, drop, length-append, drop-of-length-le}
 use lib.Pow.{pow-add}
-use lib.Seq.{drop-cons, take-all}
+use lib.Seq.{drop-cons}
 use mir.Val.{boolByte}
 use Rattle.sign.specs.Sign.{signed}
-use Rattle.numbers.proofs.Tests.{contrary}
+use Rattle.numbers.proofs.Tests.{contrary, chosen}
 use Rattle.text.specs.Characters.{minusSign, point, zeroDigit, isDigit}
 use Rattle.text.specs.Numbers.{mostDecimals}
 use Rattle.text.specs.Reading.{allDigits, numberFrom, digitsFrom, pointAt, ofParts, ofUnsigned, ofText}
@@ -89,25 +89,15 @@ sized k n d q h few = let p = div-le-self (n * 10 ^ d) q in let m = scaled k n d
 
 -- ---- parts of the text
 
--- what `&cs[a..]` holds
-pub rest : (cs : List ℕ) (a : ℕ) → take (length cs - a) (drop a cs) ≡ drop a cs
-rest cs a = take-all (length cs - a) (drop a cs) (rw length-drop (omega arith))
-
 pub point-within : (cs : List ℕ) → pointAt cs ≤ length cs
 point-within [] = omega arith
-point-within (c ∷ cs) = go (eqb c point) (point-within cs)
-  where
-    go : (t : Bool) → pointAt cs ≤ length cs → cond t 0 (suc (pointAt cs)) ≤ suc (length cs)
-    go true h = omega arith
-    go false h = omega arith
+point-within (c ∷ cs) =
+    let h = point-within cs in
+    chosen (λ (n : ℕ). n ≤ suc (length cs)) (eqb c point) (λ e. omega arith) (λ e. omega arith)
 
 -- where there is no point, nothing stands in its place or after it
 pub nothing-after : (cs : List ℕ) → length cs ≤ pointAt cs → drop (pointAt cs) cs ≡ drop (suc (pointAt cs)) cs
 nothing-after cs h = drop-of-length-le cs h ∙ sym (drop-of-length-le cs {i = suc (pointAt cs)} (omega arith))
-
-pub empty : (cs : List ℕ) → length cs ≡ 0 → cs ≡ []
-empty [] e = refl
-empty (c ∷ cs) e = absurd (omega arith)
 
 -- the first character is the minus
 abbrev pub minusFirst : List ℕ → Bool

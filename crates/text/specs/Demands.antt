@@ -1,4 +1,5 @@
--- What fits six characters in document 01's figures, and demand 2: what is written is read again as the value that it was written from.
+-- What fits six characters, in document 01's figures, and demand 2: any value that fits, written out and read again at the same
+-- decimals, is that value.
 use mathlib.Core.Path.{_≡_}
 use mathlib.Core.Bool.{Bool, true, _&&_}
 use Prim.Native.Nat.{ℕ, _≤_}
@@ -24,6 +25,6 @@ pub record RoundTrip (width d : ℕ) (v : ℤ) : Type 0 where
   pub isRead : readNumber width d (written width d v .chars) ≡ none
   pub same : readValue width d (written width d v .chars) ≡ v
 
--- demand 2: so does every value that fits, in every width from six characters on
+-- demand 2: every value that fits makes the round trip, in every width from six characters on
 abbrev pub Demand2 : Type 0
 Demand2 = (width d : ℕ) (v : ℤ) → 6 ≤ width → d ≤ 3 → fits width d v ≡ true → RoundTrip width d v

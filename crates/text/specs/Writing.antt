@@ -34,8 +34,7 @@ points (suc d) = 1
 abbrev pub room : ℕ → ℕ → Bool → ℕ
 room width d minus = width - (length (signText minus) + points d)
 
--- The size has no more digits than there is room for. In six characters that is -99999 to 999999 for d = 0 and
--- -9999 to 99999 for d = 1 to 3: `fits-six` and `fits-six-pointed` in proofs/Limits.antt show it.
+-- the size has no more digits than there is room for; `WhatFits` in Demands.antt has document 01's figures
 unfoldable pub fits : ℕ → ℕ → ℤ → Bool
 fits width d v = ltb (natAbs v) (10 ^ room width d (ltZ v (pos 0)))
 

@@ -1,5 +1,6 @@
 // Number text both ways: what the characters of a number say, and the characters of a value. The numbers of a refusal are
 // document 01's.
+use numbers::NONE;
 ghost use mathlib.Core.Path.{_≡_};
 ghost use mathlib.Core.Bool.{cond};
 ghost use Prim.Native.Nat.{_+_, _-_, _<_, _≤_, _^_};
@@ -14,9 +15,7 @@ pub const WIDTH: usize = 6;
 
 const MOST_DECIMALS: u8 = 3;
 
-// The numbers given back: none, and why text or a value is refused.
-pub const NONE: u8 = 0;
-
+// The numbers given back where text or a value is refused.
 pub const DOES_NOT_FIT: u8 = 8;
 
 pub const TOO_MANY_DECIMALS: u8 = 9;

@@ -1,6 +1,6 @@
 -- `block::judge` meets its contract: each way out is one case of the block's numbers. Assumes nothing.
 use mathlib.Core.Path.{_≡_, refl, sym, ap, ap₂, _∙_}
-use mathlib.Core.Bool.{Bool, true, false, _||_}
+use mathlib.Core.Bool.{Bool, false, _||_}
 use mathlib.Core.Logic.{⊎-elim}
 use Prim.Native.Nat.{ℕ}
 use native.Mathlib.Omega.{arith}
@@ -17,8 +17,7 @@ use Rattle.text.specs.Reading.{ReadAs}
 use Rattle.text.specs.declared.Reading.{Reading}
 use Rattle.text.specs.declared.Reading.the-variants.{Value}
 use Rattle.text.proofs.Readings.{no-value, read-by}
-use Rattle.block.specs.Block.{blockItem, blockDecimals, dataCharacters, Judges}
-use Rattle.block.specs.declared.Verdict.the-variants.{Store, Refuse}
+use Rattle.block.specs.Block.{blockItem, blockDecimals, dataCharacters}
 use Rattle.block.proofs.Cases.{Named, Valued, data-part, place, listed, line-error, wrong-bcc, under-two, unknown, too-long, no-number, read-only, out-of-range, stored}
 use Rattle.block.proofs.judge.Statement.{statement}
 use Rattle.block.proofs.judge.Tie as tie

@@ -9,8 +9,9 @@ use native.Mathlib.Omega.{arith}
 use lib.ListN.{length, drop, length-take, length-drop}
 use lib.Seq.{length-take-le}
 use Rattle.text.specs.Reading.{pointAt}
-use Rattle.text.proofs.Steps.{nothing-after, point-within, rest}
+use Rattle.text.proofs.Steps.{nothing-after, point-within}
 use borrow.Author.Needs.{needs}
+use borrow.Rule.Slice.PartAt.{part-to-end}
 use Rattle.text.proofs.of_unsigned.Statement.{statement}
 use Rattle.text.proofs.of_unsigned.Tie as tie
 
@@ -58,7 +59,7 @@ returns : tie.Need-returns
 returns c =
     let j = c .before .before .before .before in
     let chars = j .before .before .before .args .chars .now in
-    c .of-parts .ensures ∙ rw (rest chars (j .if1 .after), fraction j, j .before .point-at .ensures)
+    c .of-parts .ensures ∙ rw (part-to-end chars (j .if1 .after), fraction j, j .before .point-at .ensures)
 
 pub of-unsigned-spec : {M : Type 1} → statement M
 of-unsigned-spec =

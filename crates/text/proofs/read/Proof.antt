@@ -3,12 +3,14 @@
 -- Assumes nothing.
 use mathlib.Core.Path.{refl, ap, _∙_}
 use native.Mathlib.Omega.{arith}
+use lib.ListN.{drop-of-length-le}
 use mir.Val.{boolByte}
 use Rattle.text.specs.Numbers.{width}
 use Rattle.text.specs.Reading.{ofUnsigned}
 use Rattle.text.proofs.Readings.{read-decimals, read-long, read-text}
-use Rattle.text.proofs.Steps.{empty, minusFirst, rest, sign-apart, sign-within}
+use Rattle.text.proofs.Steps.{minusFirst, sign-apart, sign-within}
 use borrow.Author.Needs.{needs}
+use borrow.Rule.Slice.PartAt.{part-to-end}
 use Rattle.text.proofs.read.Statement.{statement}
 use Rattle.text.proofs.read.Tie as tie
 
@@ -23,7 +25,7 @@ returns-2 c =
 returns-3 : tie.Need-returns-3
 returns-3 c =
     let s = c .before .before .before .before .args in
-    read-text width (s .decimals) (s .chars .now) (c .before .before .if1 .left) (c .before .if2 .left) (rw (empty (s .chars .now) (c .if3 .taken)) refl)
+    read-text width (s .decimals) (s .chars .now) (c .before .before .if1 .left) (c .before .if2 .left) (rw (drop-of-length-le (s .chars .now) {i = 0} (omega arith)) refl)
 
 shared-slice-read-minus : tie.Need-shared-slice-read-minus
 shared-slice-read-minus c = search needs
@@ -50,7 +52,7 @@ returns-4 c =
     let chars = s .chars .now in
     let minus = minusFirst chars in
     read-text width (s .decimals) chars (t .before .before .if1 .left) (t .before .if2 .left)
-    (c .of-unsigned .ensures ∙ ap (ofUnsigned minus (s .decimals)) (rest chars (boolByte minus)) ∙ sign-apart (s .decimals) chars (omega arith))
+    (c .of-unsigned .ensures ∙ ap (ofUnsigned minus (s .decimals)) (part-to-end chars (boolByte minus)) ∙ sign-apart (s .decimals) chars (omega arith))
 
 pub read-spec : {M : Type 1} → statement M
 read-spec =
