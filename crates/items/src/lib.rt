@@ -20,18 +20,18 @@ const FIRST: [u8; ITEMS] = *b"MAABESAAPPFT";
 const SECOND: [u8; ITEMS] = *b"1AB1R112BR1M";
 
 const WRITABLE: [bool; ITEMS] = [
-    false,
-    false,
-    false,
-    false,
-    false,
-    true,
-    true,
-    true,
-    true,
-    true,
-    true,
-    true,
+    false, // M1
+    false, // AA
+    false, // AB
+    false, // B1
+    false, // ER
+    true, // S1
+    true, // A1
+    true, // A2
+    true, // PB
+    true, // PR
+    true, // F1
+    true, // TM
 ];
 
 const DECIMALS: [u8; ITEMS] = [1, 0, 0, 0, 0, 1, 1, 1, 2, 3, 0, 0];

@@ -10,7 +10,7 @@ array-read-result : tie.Need-array-read-result
 array-read-result c = search needs
 
 returns : tie.Need-returns
-returns c = column (λ (x : Item). x .second) (c .before .args .i) _ (c .if1 .taken)
+returns c = column (λ (x : Item). x .second) (c .before .args .i) 0 (c .if1 .taken)
 
 returns-2 : tie.Need-returns-2
 returns-2 c = sym (ap (λ (x : Item). x .second) (line-past (c .before .args .i) (c .if1 .left)))

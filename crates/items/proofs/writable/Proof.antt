@@ -2,6 +2,7 @@
 use borrow.Author.Needs.{needs}
 use borrow.Author.Tests.{le-ltb}
 use mathlib.Core.Path.{sym, ap, _∙_}
+use mathlib.Core.Bool.{false}
 use Rattle.items.specs.ItemList.{Item, items}
 use Rattle.items.proofs.Lists.{column, line-past}
 use Rattle.items.proofs.writable.Statement.{statement}
@@ -11,7 +12,7 @@ array-read-result : tie.Need-array-read-result
 array-read-result c = search needs
 
 returns : tie.Need-returns
-returns c = column (λ (x : Item). x .writable) (c .before .args .i) _ (c .if1 .taken)
+returns c = column (λ (x : Item). x .writable) (c .before .args .i) false (c .if1 .taken)
 
 returns-2 : tie.Need-returns-2
 returns-2 c =

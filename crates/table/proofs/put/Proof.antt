@@ -6,6 +6,7 @@ use mathlib.Core.Bool.{true, false}
 use mathlib.Core.Logic.{⊎-elim}
 use native.Mathlib.Omega.{arith}
 use Prim.Native.Nat.{ℕ, _-_, _<_}
+use Rattle.numbers.specs.Numbers.{none}
 use Rattle.sign.proofs.Laws.{same}
 use Rattle.items.specs.ItemList.{items, listed, inRange}
 use Rattle.table.specs.Table.{stored}
@@ -20,7 +21,11 @@ same-length : tie.Need-same-length
 same-length c = search needs
 
 returns : tie.Need-returns
-returns c = put-refused _ _ _ (put-fault _ _ _ (c .before .check .ensures) (c .if1 .taken)) (c .if1 .taken)
+returns c = put-refused _ _ _ (put-fault _ _ _ (c .before .check .ensures) (λ z. omega arith)) (λ z. omega arith)
+
+-- past the check the table has no fault
+fine : (c : tie.Else1) → c .before .check .result ≡ none
+fine c = omega arith
 
 same-length-2 : tie.Need-same-length-2
 same-length-2 c = search needs
@@ -36,7 +41,7 @@ returns-2 : tie.Need-returns-2
 returns-2 c =
     let n = c .before .before .before .before .args .number in
     let other = ⊎-elim (λ w. below n (w .taken)) (λ w. above n (ltb-true items n (w .1 .taken))) (c .if2 .came) in
-    put-refused _ _ _ (put-no-item _ _ _ (c .before .before .check .ensures) (c .before .if1 .left) other) (λ z. omega arith)
+    put-refused _ _ _ (put-no-item _ _ _ (c .before .before .check .ensures) (fine (c .before)) other) (λ z. omega arith)
 
 sub-i : tie.Need-sub-i
 sub-i c = search needs
@@ -67,10 +72,10 @@ same-length-3 c = search needs
 returns-3 : tie.Need-returns-3
 returns-3 c =
     let r = c .before .before .before .before in
-    let fine = r .before .before .before in
-    let s = fine .before .before .before in
+    let checked = r .before .before .before in
+    let s = checked .before .before .before in
     let inside = ranged r ∙ c .before .before .before .if4 .taken in
-    let accepted = put-inside _ _ _ (fine .before .check .ensures) (fine .if1 .left) (item (r .before)) inside in
+    let accepted = put-inside _ _ _ (checked .before .check .ensures) (fine checked) (item (r .before)) inside in
     let after = c .before .store .ensures ∙ ap (stored (s .args .table .now) (s .args .number - 1)) (same (s .args .value) (s .fits .value .sfits)) in
     rw after (put-accepted _ _ _ accepted)
 
@@ -80,9 +85,9 @@ same-length-4 c = search needs
 returns-4 : tie.Need-returns-4
 returns-4 c =
     let r = c .before in
-    let fine = r .before .before .before in
+    let checked = r .before .before .before in
     let outside = ranged r ∙ c .if4 .left in
-    put-refused _ _ _ (put-outside _ _ _ (fine .before .check .ensures) (fine .if1 .left) (item (r .before)) outside) (λ z. omega arith)
+    put-refused _ _ _ (put-outside _ _ _ (checked .before .check .ensures) (fine checked) (item (r .before)) outside) (λ z. omega arith)
 
 pub put-spec : {M : Type 1} → statement M
 put-spec =
