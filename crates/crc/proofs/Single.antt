@@ -12,4 +12,7 @@ pub is-right : OneOutcome crc.is_right.ended crc.is_right.Reads.Asked crc.is_rig
 is-right = record { asksNothing = λ κs a. tt; single = λ κs a o u p q. single p q & refl }
 
 pub seal : OneOutcome crc.seal.ended crc.seal.Reads.Asked crc.seal.Reads.Post
-seal = record { asksNothing = λ κs a. tt; single = λ κs a o u p q. single (p .handed) (q .handed) & single (p .buffer) (q .buffer) & refl }
+seal = record {
+  asksNothing = λ κs a. tt;
+  single = λ κs a o u p q. single (p .handed) (q .handed) & single (p .buffer) (q .buffer) & refl;
+}

@@ -45,8 +45,8 @@ parity structure = cond (eqb structure 1) 0 1
 unfoldable pub keeps : ℕ → ℕ → Bool
 keeps structure byte = cond (eqb structure 0) (ltb byte topBit) (eqb (ones byte % 2) (parity structure))
 
--- the low seven bits, with the top bit added unless the structure is kept: in what is heard it is the mark of a line error, in what
--- is sent it makes up for the parity that seven bits alone lack
+-- the low seven bits, with the top bit added unless the structure is kept: in what is heard it is the mark of a line error,
+-- in what is sent it makes the parity that seven bits alone lack
 abbrev pub topUnless : Bool → ℕ → ℕ
 topUnless kept c = cond kept (lowSeven c) (lowSeven c + topBit)
 

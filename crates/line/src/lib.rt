@@ -39,8 +39,8 @@ pub fn keeps(structure: u8, byte: u8) -> bool
     (u8::count_ones(byte) % 2 == 0) == (structure == 1)
 }
 
-// The low seven bits, with the top bit added unless the structure is kept: in what is heard it is the mark of a line error, in
-// what is sent it makes up for the parity that seven bits alone lack.
+// The low seven bits, with the top bit added unless the structure is kept: in what is heard it is the mark of a line error,
+// in what is sent it makes the parity that seven bits alone lack.
 fn top_unless(kept: bool, c: u8) -> u8
     ensures { λ r. ⌜ r ≡ topUnless kept c ⌝ }
 {

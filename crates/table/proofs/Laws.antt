@@ -18,7 +18,8 @@ use Rattle.numbers.specs.Promise.{Lent}
 use Rattle.numbers.proofs.Tests.{contrary, both, chosen}
 use Rattle.numbers.proofs.Order.{none-met, test-held}
 use Rattle.items.specs.ItemList.{Item, items, listed, itemList, noItem, itemAt, fromLowToHigh, inRange, found}
-use Rattle.table.specs.Table.{wrongLength, entryOutside, allInRange, tableFault, goodTable, startValues, entry, M1, AA, AB, A1, A2, Places, alarm, answered, stored, noSuchItem, valueOutside, putNumber, putTable}
+use Rattle.table.specs.Table.{wrongLength, entryOutside, noSuchItem, valueOutside, allInRange, tableFault, goodTable}
+use Rattle.table.specs.Table.{startValues, entry, M1, AA, AB, A1, A2, Places, alarm, answered, stored, putNumber, putTable}
 
 -- ---- a good table
 
@@ -29,7 +30,8 @@ good-parts t g =
     let long = unless (eqb (length t) items) wrongLength in
     let inside = unless (allInRange itemList t) entryOutside in
     let all = none-met long (inside ∷ []) (eqb-true (tableFault t) none g) in
-    (eqb-true _ _ (test-held _ wrongLength (omega arith) (all .0)), test-held _ entryOutside (omega arith) (none-met inside [] (all .1) .0))
+    let inside-held = test-held _ entryOutside (omega arith) (none-met inside [] (all .1) .0) in
+    (eqb-true _ _ (test-held _ wrongLength (omega arith) (all .0)), inside-held)
 
 good-from : (t : List ℤ) → length t ≡ items → allInRange itemList t ≡ true → goodTable t ≡ true
 unfolding tableFault

@@ -1,5 +1,5 @@
-// The lent table, which has one entry for each item: its check, its start values, what either line answers for an item, storing a
-// value, and the firmware's put.
+// The lent table, which has one entry for each item: its check, its start values, what either line answers for an item,
+// storing a value, and the firmware's put.
 ghost use mathlib.Core.Path.{_≡_};
 ghost use Rattle.numbers.specs.Promise.{Lent};
 ghost use Rattle.table.specs.Table.{tableFault, startNumber, startTable, entry, alarm, answered, stored, putNumber, putTable};
@@ -45,7 +45,7 @@ pub fn check(table: &[i32]) -> u8
     if inside { NONE } else { ENTRY_OUTSIDE }
 }
 
-// Every item takes its start value.
+// Every item takes its start value; a table of another length is left as it is.
 pub fn start(table: &mut [i32]) -> u8
     ensures { λ r. ⌜ Lent (startNumber (now (table .entry))) (startTable (now (table .entry))) r (now (table .exit)) ⌝ }
 {
@@ -102,7 +102,8 @@ pub fn store(table: &mut [i32], i: usize, value: i32)
 
 // The firmware sets an item, by its number from 1, to any value in its range.
 pub fn put(table: &mut [i32], number: u32, value: i32) -> u8
-    ensures { λ r. ⌜ Lent (putNumber (now (table .entry)) number value) (putTable (now (table .entry)) number value) r (now (table .exit)) ⌝ }
+    ensures { λ r. ⌜ Lent (putNumber (now (table .entry)) number value)
+        (putTable (now (table .entry)) number value) r (now (table .exit)) ⌝ }
 {
     let fault = check(&table[..]);
     if fault != NONE {

@@ -41,7 +41,8 @@ returns-2 : tie.Need-returns-2
 returns-2 c =
     let n = c .before .before .before .before .args .number in
     let other = ⊎-elim (λ w. below n (w .taken)) (λ w. above n (ltb-true items n (w .1 .taken))) (c .if2 .came) in
-    put-refused _ _ _ (put-no-item _ _ _ (c .before .before .check .ensures) (fine (c .before)) other) (λ z. omega arith)
+    let refused = put-no-item _ _ _ (c .before .before .check .ensures) (fine (c .before)) other in
+    put-refused _ _ _ refused (λ z. omega arith)
 
 sub-i : tie.Need-sub-i
 sub-i c = search needs
@@ -76,7 +77,8 @@ returns-3 c =
     let s = checked .before .before .before in
     let inside = ranged r ∙ c .before .before .before .if4 .taken in
     let accepted = put-inside _ _ _ (checked .before .check .ensures) (fine checked) (item (r .before)) inside in
-    let after = c .before .store .ensures ∙ ap (stored (s .args .table .now) (s .args .number - 1)) (same (s .args .value) (s .fits .value .sfits)) in
+    let value = same (s .args .value) (s .fits .value .sfits) in
+    let after = c .before .store .ensures ∙ ap (stored (s .args .table .now) (s .args .number - 1)) value in
     rw after (put-accepted _ _ _ accepted)
 
 same-length-4 : tie.Need-same-length-4
@@ -87,7 +89,8 @@ returns-4 c =
     let r = c .before in
     let checked = r .before .before .before in
     let outside = ranged r ∙ c .if4 .left in
-    put-refused _ _ _ (put-outside _ _ _ (checked .before .check .ensures) (fine checked) (item (r .before)) outside) (λ z. omega arith)
+    let refused = put-outside _ _ _ (checked .before .check .ensures) (fine checked) (item (r .before)) outside in
+    put-refused _ _ _ refused (λ z. omega arith)
 
 pub put-spec : {M : Type 1} → statement M
 put-spec =
