@@ -3,8 +3,9 @@
 use numbers::NONE;
 ghost use mathlib.Core.Path.{_≡_};
 ghost use mathlib.Core.Bool.{cond};
-ghost use Prim.Native.Nat.{_+_, _-_, _<_, _≤_, _^_};
+ghost use Prim.Native.Nat.{_+_, _-_, _/_, _<_, _≤_, _^_};
 ghost use lib.ListN.{length};
+ghost use Rattle.sign.specs.Sign.{made};
 ghost use Rattle.text.specs.Characters.{isDigit, minusSign};
 ghost use Rattle.text.specs.Numbers.{width, mostDecimals, numberOf, valueOf};
 ghost use Rattle.text.specs.Reading.{digitsFrom, ofParts, ofUnsigned, pointAt, ReadAs};
@@ -112,7 +113,15 @@ fn digits_from(from: u32, chars: &[u8]) -> Digits
     Digits::Number(n)
 }
 
-// What the characters before and after the point say. One quotient cuts the fraction off, and the sign comes last.
+// A size over a power of ten. The quotient cuts the fraction off, and the sign comes last, so that the cut is toward zero.
+fn cut_off(minus: bool, size: u32, tens: u32) -> i32
+    requires { ⌜ (size < 10 ^ 9) × (0 < tens) × (tens ≤ 10 ^ 6) ⌝ }
+    ensures { λ r. ⌜ r ≡ made minus (size / tens) ⌝ }
+{
+    sign::make(minus, size / tens)
+}
+
+// What the characters before and after the point say.
 fn of_parts(minus: bool, decimals: usize, whole: &[u8], fraction: &[u8]) -> Reading
     requires { ⌜ (decimals ≤ mostDecimals) × (length (now whole) + length (now fraction) ≤ 6) ⌝ }
     ensures { λ r. ⌜ r ≡ ofParts minus decimals (now (whole .entry)) (now (fraction .entry)) ⌝ }
@@ -127,8 +136,8 @@ fn of_parts(minus: bool, decimals: usize, whole: &[u8], fraction: &[u8]) -> Read
     if whole.len() + places == 0 {
         return Reading::NoNumber;
     }
-    let size = n * power(decimals) / power(places);
-    Reading::Value(sign::make(minus, size))
+    let size = n * power(decimals);
+    Reading::Value(cut_off(minus, size, power(places)))
 }
 
 // What the characters after the sign say. This and `read` call what comes next in one place, so that it is compiled once.
@@ -149,10 +158,10 @@ fn of_unsigned(minus: bool, decimals: usize, chars: &[u8]) -> Reading
 pub fn read(decimals: u8, chars: &[u8]) -> Reading
     ensures { λ r. ⌜ ReadAs width decimals (now (chars .entry)) r ⌝ }
 {
-    if MOST_DECIMALS < decimals {
+    if decimals > MOST_DECIMALS {
         return Reading::Decimals;
     }
-    if WIDTH < chars.len() {
+    if chars.len() > WIDTH {
         return Reading::TooLong;
     }
     if chars.len() == 0 {

@@ -41,7 +41,7 @@ returns-2 c =
 returns-3 : tie.Need-returns-3
 returns-3 c =
     let s = c .before .before .before .before .args in
-    under-two (s .mark) (s .bcc) (s .count) (s .t4) (s .c) (heard (c .before .before)) (c .before .if3 .left) (c .if4 .taken)
+    under-two (s .mark) (s .bcc) (s .count) (s .t4) (s .c) (heard (c .before .before)) (c .before .if3 .left) (omega arith)
 
 array-read-find : tie.Need-array-read-find
 array-read-find c = search needs
@@ -63,7 +63,7 @@ returns-4 c =
     let f = c .before .before in
     let e = f .before in
     let s = e .before .before .before .before .args in
-    unknown (s .mark) (s .bcc) (s .count) (s .t4) (s .c) (heard (e .before .before)) (e .before .if3 .left) (e .if4 .left) (sym (f .find .ensures) ∙ c .enum-told .given .1)
+    unknown (s .mark) (s .bcc) (s .count) (s .t4) (s .c) (heard (e .before .before)) (e .before .if3 .left) (omega arith) (sym (f .find .ensures) ∙ c .enum-told .given .1)
 
 -- ---- for its item
 
@@ -77,13 +77,13 @@ at c = sym (c .before .before .find .ensures) ∙ c .i .given .1
 named : (c : tie.After-i) → let s = call c .args in Named (s .mark) (s .bcc) (s .count) (s .t4) (s .c)
 named c =
     let e = c .before .before .before in
-    record { heard = heard (e .before .before); same = e .before .if3 .left; two = e .if4 .left; item = listed (call c .args .t4) (c .i .given .0 .0) (at c) }
+    record { heard = heard (e .before .before); same = e .before .if3 .left; two = omega arith; item = listed (call c .args .t4) (c .i .given .0 .0) (at c) }
 
 returns-5 : tie.Need-returns-5
 returns-5 c =
     let i = c .before .before in
     let s = call i .args in
-    too-long (s .mark) (s .bcc) (s .count) (s .t4) (s .c) (named i) (c .if5 .taken)
+    too-long (s .mark) (s .bcc) (s .count) (s .t4) (s .c) (named i) (omega arith)
 
 decimals-requires : tie.Need-decimals-requires
 decimals-requires c κs = search needs
@@ -128,7 +128,7 @@ returns-6 c =
     let i = item r in
     let s = call i .args in
     let met = no-value (λ (x : Reading). numberOf x ≡ none → ⊥) (r .read .result) (c .before .match2 .keys2) (λ z. omega arith) (λ z. omega arith) (λ z. omega arith) in
-    no-number (s .mark) (s .bcc) (s .count) (s .t4) (s .c) (named i) (r .before .before .before .before .if5 .left) (r .read .result) (read r (r .read .result) refl)
+    no-number (s .mark) (s .bcc) (s .count) (s .t4) (s .c) (named i) (omega arith) (r .read .result) (read r (r .read .result) refl)
     (c .number .result) (c .number .ensures) (λ z. met (sym (c .number .ensures) ∙ z))
 
 -- ---- with its value
@@ -144,7 +144,7 @@ valued : (c : tie.After-known-told2) → let s = call (item (c .before .before .
     Valued (s .count) (s .t4) (c .before .read2 .given .0 .0)
 valued c =
     let r = c .before .before .before in
-    record { whole = r .before .before .before .before .if5 .left; read = read r (Value (c .before .read2 .given .0 .0)) (c .before .read2 .given .1) }
+    record { whole = omega arith; read = read r (Value (c .before .read2 .given .0 .0)) (c .before .read2 .given .1) }
 
 kind : (c : tie.After-writable) {b : Bool} → c .writable .result ≡ b
     → itemAt (blockItem (call (item (c .before .before .before .before)) .args .t4)) .writable ≡ b

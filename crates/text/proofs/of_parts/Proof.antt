@@ -2,8 +2,8 @@
 -- quotient are those of the definition.
 -- Assumes nothing.
 use mathlib.Core.Path.{_≡_, sym, ap, _∙_}
-use Prim.Native.Nat.{_+_, _-_, _*_, _/_, _^_, _<_}
-use native.Mathlib.Nat.{one-le-pow}
+use Prim.Native.Nat.{_+_, _-_, _*_, _/_, _^_, _<_, _≤_}
+use native.Mathlib.Nat.{one-le-pow, pow-le-pow-right}
 use native.Mathlib.Omega.{arith}
 use lib.ListN.{length}
 use Rattle.sign.proofs.Laws.{make-of, same}
@@ -83,11 +83,17 @@ mul-size c =
 power-requires-2 : tie.Need-power-requires-2
 power-requires-2 c κs = search needs
 
-div-size : tie.Need-div-size
-div-size c = rw (c .power2 .ensures) (one-le-pow _ 10 (omega arith))
-
-make-requires : tie.Need-make-requires
-make-requires c κs = search needs
+cut-off-requires : tie.Need-cut-off-requires
+cut-off-requires c κs =
+    let n = c .before .before .before .before in
+    let s = n .before .before .before .before .before .before .before .before .before in
+    let places = length (s .args .fraction .now) in
+    let most : places ≤ 6 = omega (arith, s .pre .1) in
+    rw (c .before .power .ensures, c .power2 .ensures) (
+      scaled 6 (n .n .given .0 .0) (s .args .decimals) (six n) (s .pre .0),
+      one-le-pow places 10 (omega arith),
+      pow-le-pow-right {n = 10} (omega arith) most,
+    )
 
 returns-4 : tie.Need-returns-4
 returns-4 c =
@@ -97,7 +103,7 @@ returns-4 c =
     let q = c .before .power2 .ensures in
     let size = n .n .given .0 .0 * 10 ^ s .args .decimals / 10 ^ length (s .args .fraction .now) in
     let small = sized 6 (n .n .given .0 .0) (s .args .decimals) (10 ^ length (s .args .fraction .now)) (six n) (s .pre .0) in
-    ap Value (same (c .make .result) (c .make .ok) ∙ make-of (s .args .minus) size (c .make .result) (omega arith) (rw (p, q) at (c .make .ensures)))
+    ap Value (same (c .cut-off .result) (c .cut-off .ok) ∙ make-of (s .args .minus) size (c .cut-off .result) (omega arith) (rw (p, q) at (c .cut-off .ensures)))
     ∙ digits-say (s .args .minus) (s .args .decimals) (s .args .whole .now) (s .args .fraction .now) (n .before .before .before .before .front .given .0 .0) (n .n .given .0 .0) (front (n .before .before .before .before)) (all n) (c .before .before .before .if1 .left)
 
 pub of-parts-spec : {M : Type 1} → statement M
@@ -117,6 +123,5 @@ of-parts-spec =
     power-requires
     mul-size
     power-requires-2
-    div-size
-    make-requires
+    cut-off-requires
     returns-4)

@@ -15,17 +15,17 @@ use Rattle.text.proofs.read.Statement.{statement}
 use Rattle.text.proofs.read.Tie as tie
 
 returns : tie.Need-returns
-returns c = let s = c .before .before .args in read-decimals width (s .decimals) (s .chars .now) (c .if1 .taken)
+returns c = let s = c .before .before .args in read-decimals width (s .decimals) (s .chars .now) (omega arith)
 
 returns-2 : tie.Need-returns-2
 returns-2 c =
     let s = c .before .before .before .args in
-    read-long width (s .decimals) (s .chars .now) (c .before .if1 .left) (c .if2 .taken)
+    read-long width (s .decimals) (s .chars .now) (omega arith) (omega arith)
 
 returns-3 : tie.Need-returns-3
 returns-3 c =
     let s = c .before .before .before .before .args in
-    read-text width (s .decimals) (s .chars .now) (c .before .before .if1 .left) (c .before .if2 .left) (rw (drop-of-length-le (s .chars .now) {i = 0} (omega arith)) refl)
+    read-text width (s .decimals) (s .chars .now) (omega arith) (omega arith) (rw (drop-of-length-le (s .chars .now) {i = 0} (omega arith)) refl)
 
 shared-slice-read-minus : tie.Need-shared-slice-read-minus
 shared-slice-read-minus c = search needs
@@ -51,7 +51,7 @@ returns-4 c =
     let s = t .before .before .before .before .args in
     let chars = s .chars .now in
     let minus = minusFirst chars in
-    read-text width (s .decimals) chars (t .before .before .if1 .left) (t .before .if2 .left)
+    read-text width (s .decimals) chars (omega arith) (omega arith)
     (c .of-unsigned .ensures ∙ ap (ofUnsigned minus (s .decimals)) (part-to-end chars (boolByte minus)) ∙ sign-apart (s .decimals) chars (omega arith))
 
 pub read-spec : {M : Type 1} → statement M

@@ -21,7 +21,7 @@ refused-requires c κs = search needs
 returns : tie.Need-returns
 returns c =
     let s = c .before .before .args in
-    c .refused .ensures ∙ sym (many-decimals 6 (s .decimals) (s .value) (c .before .if1 .taken))
+    c .refused .ensures ∙ sym (many-decimals 6 (s .decimals) (s .value) (omega arith))
 
 less-requires : tie.Need-less-requires
 less-requires c κs = search needs
@@ -55,7 +55,7 @@ returns-2 c =
     let s = l .before .before .before .before .args in
     let f = found l in
     let fit = lt-ltb (natAbs (s .value)) (10 ^ room 6 (s .decimals) (ltZ (s .value) (pos 0))) (rw (f .1, f .2) at (c .before .if2 .taken)) in
-    ap accepted (c .layout .ensures ∙ rw (f .0, f .1)) ∙ sym (fitting 6 (s .decimals) (s .value) (l .before .before .before .if1 .left) fit)
+    ap accepted (c .layout .ensures ∙ rw (f .0, f .1)) ∙ sym (fitting 6 (s .decimals) (s .value) (omega arith) fit)
 
 returns-3 : tie.Need-returns-3
 unfolding fits
@@ -64,7 +64,7 @@ returns-3 c =
     let s = l .before .before .before .before .args in
     let f = found l in
     let unfit = le-ltb (natAbs (s .value)) (10 ^ room 6 (s .decimals) (ltZ (s .value) (pos 0))) (rw (f .1, f .2) at (c .before .if2 .left)) in
-    c .refused2 .ensures ∙ sym (not-fitting 6 (s .decimals) (s .value) (l .before .before .before .if1 .left) unfit)
+    c .refused2 .ensures ∙ sym (not-fitting 6 (s .decimals) (s .value) (omega arith) unfit)
 
 pub write-spec : {M : Type 1} → statement M
 write-spec =
