@@ -27,7 +27,8 @@ pub data-part : (count : ℕ) (kept : List ℕ) → identifierLength ≤ count �
 data-part count kept h k =
     let more = count - identifierLength in
     let e : identifierLength + more ≡ count = omega arith in
-    sym (drop-at (take identifierLength kept) (take more (drop identifierLength kept)) identifierLength (length-take-le identifierLength kept k))
+    let name = take identifierLength kept in
+    sym (drop-at name (take more (drop identifierLength kept)) identifierLength (length-take-le identifierLength kept k))
     ∙ ap (drop identifierLength) (sym (take-add identifierLength more kept) ∙ ap (λ (n : ℕ). take n kept) e)
 
 -- the first two characters name the item at this place of the list
@@ -51,7 +52,7 @@ pub record Valued (count : ℕ) (kept : List ℕ) (v : ℤ) : Type 0 where
   pub whole : count ≤ mostKept
   pub read : ReadAs width (blockDecimals kept) (dataCharacters count kept) (Value v)
 
-module _ (mark : Bool) (bcc count : ℕ) (kept : List ℕ) (c : ℕ) where
+module _ {mark : Bool} {bcc count : ℕ} {kept : List ℕ} {c : ℕ} where
   refused : (n : ℕ) → (n ≡ none → ⊥) → blockNumber mark bcc count kept c ≡ n → Judges mark bcc count kept c (Refuse n)
   refused n h e = let met = ne-eqb n none h in record { number = sym e; item = rw (e, met); value = rw (e, met) }
 
@@ -81,19 +82,20 @@ module _ (mark : Bool) (bcc count : ℕ) (kept : List ℕ) (c : ℕ) where
     -- the numbers from the data characters on decide
     reached : blockNumber mark bcc count kept c ≡ firstMet (drop 4 (blockNumbers mark bcc count kept c))
     unfolding blockNumber
-    reached = rw (n .heard, eq-eqb c bcc (n .same), le-leb identifierLength count (n .two), lt-ltb (blockItem kept) items (n .item))
+    reached =
+        rw (n .heard, eq-eqb c bcc (n .same), le-leb identifierLength count (n .two), lt-ltb (blockItem kept) items (n .item))
 
     pub too-long : mostKept < count → Judges mark bcc count kept c (Refuse overSixCharacters)
     too-long h = refused overSixCharacters (λ z. omega arith) (reached ∙ rw (lt-leb count mostKept h))
 
-    pub no-number : count ≤ mostKept → (r : Reading) → ReadAs width (blockDecimals kept) (dataCharacters count kept) r
-        → (n : ℕ) → n ≡ numberOf r → (n ≡ none → ⊥) → Judges mark bcc count kept c (Refuse n)
-    no-number whole r read n e h =
+    pub no-number : count ≤ mostKept → {r : Reading} → ReadAs width (blockDecimals kept) (dataCharacters count kept) r
+        → {n : ℕ} → n ≡ numberOf r → (n ≡ none → ⊥) → Judges mark bcc count kept c (Refuse n)
+    no-number whole read {n} e h =
         refused n h (reached ∙ rw (le-leb count mostKept whole, ← (read .number), ← e, ne-eqb n none h))
 
     -- ---- with its value
 
-    module _ (v : ℤ) (e : Valued count kept v) where
+    module _ {v : ℤ} (e : Valued count kept v) where
       same-value : v ≡ blockValue count kept
       unfolding blockValue
       same-value = e .read .value
@@ -109,7 +111,8 @@ module _ (mark : Bool) (bcc count : ℕ) (kept : List ℕ) (c : ℕ) where
         pub out-of-range : inRange (blockItem kept) v ≡ false → Judges mark bcc count kept c (Refuse outOfRange)
         out-of-range k = refused outOfRange (λ z. omega arith) (valued ∙ rw (w, ← same-value, k))
 
-        pub stored : inRange (blockItem kept) v ≡ true → (i : ℕ) (u : ℤ) → i ≡ blockItem kept → u ≡ v → Judges mark bcc count kept c (Store i u)
-        stored k i u p q =
+        pub stored : inRange (blockItem kept) v ≡ true → {i : ℕ} {u : ℤ} → i ≡ blockItem kept → u ≡ v
+            → Judges mark bcc count kept c (Store i u)
+        stored k p q =
             let z : blockNumber mark bcc count kept c ≡ none = valued ∙ rw (w, ← same-value, k) in
             record { number = sym z; item = p ∙ rw z; value = q ∙ same-value ∙ rw z }

@@ -1,5 +1,5 @@
--- What a caller may rely on. Where a block meets no number its value may be stored in its item, and else its number is one of 11 to
--- 18. A verdict tells which of the two it is.
+-- What a caller may rely on. Where a block meets no number its value may be stored in its item, and else its number is one of 11
+-- to 18. A verdict tells which of the two it is.
 -- Assumes nothing.
 use mathlib.Core.Path.{_≡_, refl, sym, ap, ap₂, _∙_}
 use mathlib.Core.Bool.{Bool, true, false, not, _&&_, _||_}
@@ -71,7 +71,8 @@ not-met h = absurd (h refl)
 
 numbered : (n : ℕ) → (leb lineError n && leb n outOfRange) ≡ true → IfMet n
 numbered n e h =
-    let p = both (leb lineError n) (leb n outOfRange) e in record { least = leb-true lineError n (p .0); most = leb-true n outOfRange (p .1) }
+    let p = both (leb lineError n) (leb n outOfRange) e in
+    record { least = leb-true lineError n (p .0); most = leb-true n outOfRange (p .1) }
 
 tested : (test : Bool) (n : ℕ) → (leb lineError n && leb n outOfRange) ≡ true → IfMet (unless test n)
 tested true n e = not-met
@@ -91,13 +92,14 @@ module _ (mark : Bool) (bcc count : ℕ) (kept : List ℕ) (c : ℕ) where
   pub block-refuses : (blockNumber mark bcc count kept c ≡ none → ⊥) → Refusing (blockNumber mark bcc count kept c)
   unfolding blockNumber
   block-refuses =
+      let text = few-numbers IfMet not-met (numbered noNumber refl) (numbered overSixCharacters refl) in
       first-each IfMet (blockNumbers mark bcc count kept c)
       (tested (not (mark || isLineError c)) lineError refl
       then tested (eqb c bcc) wrongBcc refl
       then tested (leb identifierLength count) underTwo refl
       then tested (ltb (blockItem kept) items) unknownIdentifier refl
       then tested (leb count mostKept) overSixCharacters refl
-      then few-numbers IfMet not-met (numbered noNumber refl) (numbered overSixCharacters refl) width (blockDecimals kept) (dataCharacters count kept) (few-decimals (blockItem kept))
+      then text width (blockDecimals kept) (dataCharacters count kept) (few-decimals (blockItem kept))
       then tested (itemAt (blockItem kept) .writable) readOnly refl
       then tested (inRange (blockItem kept) (blockValue count kept)) outOfRange refl
       then end not-met)

@@ -61,8 +61,8 @@ blockValue count kept = readValue width (blockDecimals kept) (dataCharacters cou
 
 -- ---- its number
 
--- The numbers that a block can meet, in the order in which they are tried: from whether it was marked, the BCC of its text and ETX,
--- the count of its characters, those kept, and what was heard in the BCC's place.
+-- The numbers that a block can meet, in the order in which they are tried: by whether it was marked, the BCC of its text and
+-- ETX, the count of its characters, those kept, and what was heard in the BCC's place.
 abbrev pub blockNumbers : Bool → ℕ → ℕ → List ℕ → ℕ → List ℕ
 blockNumbers mark bcc count kept c =
     unless (not (mark || isLineError c)) lineError

@@ -1,10 +1,11 @@
--- Readings by their number and value: which reading has them, what is left where `let Reading::Value(v) = .. else` finds no value,
--- and what is promised of each way out of `read`.
+-- Readings by their number and value: which reading has them, what is left where `let Reading::Value(v) = .. else` finds no
+-- value, what is promised of each way out of `read`, and which numbers there are.
 -- Assumes nothing.
 use mathlib.Core.Path.{_≡_, refl, sym, ap, ap₂, _∙_}
 use mathlib.Core.Bool.{Bool, true, false, cond, _&&_}
 use mathlib.Core.List.{List, [], _∷_, _++_}
 use Prim.Native.Nat.{ℕ, suc, _<_, _≤_}
+use native.Mathlib.Omega.{arith}
 use denote.Enum.Declared.{tagOf}
 use types.Run.{OneOf, miss}
 use borrow.Author.Tests.{le-leb, lt-leb}
@@ -42,14 +43,20 @@ pub same-reading : (r s : Reading) → numberOf r ≡ numberOf s → valueOf r �
 same-reading r s n v = sym (recovered r) ∙ ap₂ readingOf n v ∙ recovered s
 
 -- without a value it is one of the three refusals
-pub no-value : (P : Reading → Type 0) (r : Reading) → OneOf (1 ∷ 2 ∷ 3 ∷ []) (tagOf the-type r) → P Decimals → P TooLong → P NoNumber → P r
+pub no-value : (P : Reading → Type 0) (r : Reading) → OneOf (1 ∷ 2 ∷ 3 ∷ []) (tagOf the-type r)
+    → P Decimals → P TooLong → P NoNumber → P r
 no-value P (Value v) o d t n = absurd (miss (1 ∷ 2 ∷ 3 ∷ []) 0 tt o)
 no-value P Decimals o d t n = d
 no-value P TooLong o d t n = t
 no-value P NoNumber o d t n = n
 
+-- whose number is met
+pub refusal-met : (r : Reading) → OneOf (1 ∷ 2 ∷ 3 ∷ []) (tagOf the-type r) → numberOf r ≡ none → ⊥
+refusal-met r o = no-value (λ (x : Reading). numberOf x ≡ none → ⊥) r o (λ z. omega arith) (λ z. omega arith) (λ z. omega arith)
+
 -- the promise of a reading is that of an equal one, of equal characters at equal decimals
-pub read-by : {width d k : ℕ} {cs ds : List ℕ} {r s : Reading} → d ≡ k → cs ≡ ds → r ≡ s → ReadAs width d cs r → ReadAs width k ds s
+pub read-by : {width d k : ℕ} {cs ds : List ℕ} {r s : Reading} → d ≡ k → cs ≡ ds → r ≡ s → ReadAs width d cs r
+    → ReadAs width k ds s
 read-by {width} p q e a =
     record {
       number = ap numberOf (sym e) ∙ a .number ∙ ap₂ (readNumber width) p q;

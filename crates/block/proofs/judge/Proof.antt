@@ -7,16 +7,14 @@ use native.Mathlib.Omega.{arith}
 use borrow.Author.Needs.{needs}
 use borrow.Author.Tests.{not-true, not-false}
 use lib.ListN.{getD}
-use Rattle.numbers.specs.Numbers.{none}
 use Rattle.sign.proofs.Laws.{same}
 use Rattle.line.specs.Line.{isLineError}
 use Rattle.items.specs.ItemList.{itemAt, found, inRange}
 use Rattle.items.specs.declared.Found.the-variants.{At}
-use Rattle.text.specs.Numbers.{width, numberOf}
+use Rattle.text.specs.Numbers.{width}
 use Rattle.text.specs.Reading.{ReadAs}
 use Rattle.text.specs.declared.Reading.{Reading}
-use Rattle.text.specs.declared.Reading.the-variants.{Value}
-use Rattle.text.proofs.Readings.{no-value, read-by}
+use Rattle.text.proofs.Readings.{refusal-met, read-by}
 use Rattle.block.specs.Block.{blockItem, blockDecimals, dataCharacters}
 use Rattle.block.proofs.Cases.{Named, Valued, data-part, place, listed, line-error, wrong-bcc, under-two, unknown, too-long, no-number, read-only, out-of-range, stored}
 use Rattle.block.proofs.judge.Statement.{statement}
@@ -25,23 +23,17 @@ use Rattle.block.proofs.judge.Tie as tie
 -- ---- before the item is known
 
 returns : tie.Need-returns
-returns c =
-    let s = c .before .args in
-    line-error (s .mark) (s .bcc) (s .count) (s .t4) (s .c) (⊎-elim (λ w. rw (w .taken)) (λ w. rw (w .0 .left) (w .1 .taken)) (c .if1 .came))
+returns c = line-error (⊎-elim (λ w. rw (w .taken)) (λ w. rw (w .0 .left) (w .1 .taken)) (c .if1 .came))
 
 -- no line error, in the text or for the BCC
 heard : (c : tie.Else2) → let s = c .before .before .args in (s .mark || isLineError (s .c)) ≡ false
 heard c = rw (c .before .if1 .left) (c .if2 .left)
 
 returns-2 : tie.Need-returns-2
-returns-2 c =
-    let s = c .before .before .before .args in
-    wrong-bcc (s .mark) (s .bcc) (s .count) (s .t4) (s .c) (heard (c .before)) (c .if3 .taken)
+returns-2 c = wrong-bcc (heard (c .before)) (c .if3 .taken)
 
 returns-3 : tie.Need-returns-3
-returns-3 c =
-    let s = c .before .before .before .before .args in
-    under-two (s .mark) (s .bcc) (s .count) (s .t4) (s .c) (heard (c .before .before)) (c .before .if3 .left) (omega arith)
+returns-3 c = under-two (heard (c .before .before)) (c .before .if3 .left) (omega arith)
 
 array-read-find : tie.Need-array-read-find
 array-read-find c = search needs
@@ -62,8 +54,7 @@ returns-4 : tie.Need-returns-4
 returns-4 c =
     let f = c .before .before in
     let e = f .before in
-    let s = e .before .before .before .before .args in
-    unknown (s .mark) (s .bcc) (s .count) (s .t4) (s .c) (heard (e .before .before)) (e .before .if3 .left) (omega arith) (sym (f .find .ensures) ∙ c .enum-told .given .1)
+    unknown (heard (e .before .before)) (e .before .if3 .left) (omega arith) (sym (f .find .ensures) ∙ c .enum-told .given .1)
 
 -- ---- for its item
 
@@ -74,16 +65,22 @@ call c = c .before .before .before .before .before .before .before
 at : (c : tie.After-i) → found (getD (call c .args .t4) 0 0) (getD (call c .args .t4) 1 0) ≡ At (c .i .given .0 .0)
 at c = sym (c .before .before .find .ensures) ∙ c .i .given .1
 
+-- it is the block's item
+item : (c : tie.After-i) → blockItem (call c .args .t4) ≡ c .i .given .0 .0
+item c = place (call c .args .t4) (c .i .given .0 .0) (at c)
+
 named : (c : tie.After-i) → let s = call c .args in Named (s .mark) (s .bcc) (s .count) (s .t4) (s .c)
 named c =
     let e = c .before .before .before in
-    record { heard = heard (e .before .before); same = e .before .if3 .left; two = omega arith; item = listed (call c .args .t4) (c .i .given .0 .0) (at c) }
+    record {
+      heard = heard (e .before .before);
+      same = e .before .if3 .left;
+      two = omega arith;
+      item = listed (call c .args .t4) (c .i .given .0 .0) (at c);
+    }
 
 returns-5 : tie.Need-returns-5
-returns-5 c =
-    let i = c .before .before in
-    let s = call i .args in
-    too-long (s .mark) (s .bcc) (s .count) (s .t4) (s .c) (named i) (omega arith)
+returns-5 c = too-long (named (c .before .before)) (omega arith)
 
 decimals-requires : tie.Need-decimals-requires
 decimals-requires c κs = search needs
@@ -109,27 +106,25 @@ enum-known-read c = search needs
 number-requires : tie.Need-number-requires
 number-requires c κs = search needs
 
--- the item, from where its data characters are read
-abbrev item : tie.After-read → tie.After-i
-item c = c .before .before .before .before .before .before
+-- its item, from where the data characters are read
+abbrev found-for : tie.After-read → tie.After-i
+found-for c = c .before .before .before .before .before .before
 
 -- the part that was lent has the data characters, and the item's decimals are the block's
-read : (c : tie.After-read) (r : Reading) → c .read .result ≡ r
-    → let s = call (item c) .args in ReadAs width (blockDecimals (s .t4)) (dataCharacters (s .count) (s .t4)) r
-read c r e =
-    let i = item c in
+read : (c : tie.After-read) {r : Reading} → c .read .result ≡ r
+    → let s = call (found-for c) .args in ReadAs width (blockDecimals (s .t4)) (dataCharacters (s .count) (s .t4)) r
+read c e =
+    let i = found-for c in
     let s = call i .args in
-    let d = c .before .before .before .decimals .ensures ∙ ap (λ (k : ℕ). itemAt k .decimals) (sym (place (s .t4) (i .i .given .0 .0) (at i))) in
+    let d = c .before .before .before .decimals .ensures ∙ ap (λ (k : ℕ). itemAt k .decimals) (sym (item i)) in
     read-by d (data-part (s .count) (s .t4) (named i .two) (search needs)) e (c .read .ensures)
 
 returns-6 : tie.Need-returns-6
 returns-6 c =
     let r = c .before .before in
-    let i = item r in
-    let s = call i .args in
-    let met = no-value (λ (x : Reading). numberOf x ≡ none → ⊥) (r .read .result) (c .before .match2 .keys2) (λ z. omega arith) (λ z. omega arith) (λ z. omega arith) in
-    no-number (s .mark) (s .bcc) (s .count) (s .t4) (s .c) (named i) (omega arith) (r .read .result) (read r (r .read .result) refl)
-    (c .number .result) (c .number .ensures) (λ z. met (sym (c .number .ensures) ∙ z))
+    let e = c .number .ensures in
+    let met = refusal-met (r .read .result) (c .before .match2 .keys2) in
+    no-number (named (found-for r)) (omega arith) (read r refl) e (λ z. met (sym e ∙ z))
 
 -- ---- with its value
 
@@ -139,50 +134,46 @@ writable-requires c κs = search needs
 in-range-requires : tie.Need-in-range-requires
 in-range-requires c κs = search needs
 
+-- its reading, from where the value is taken out of it
+abbrev reading : tie.After-known-told2 → tie.After-read
+reading c = c .before .before .before
+
 -- the value, and the item's kind and range, as the calls gave them
-valued : (c : tie.After-known-told2) → let s = call (item (c .before .before .before)) .args in
+valued : (c : tie.After-known-told2) → let s = call (found-for (reading c)) .args in
     Valued (s .count) (s .t4) (c .before .read2 .given .0 .0)
-valued c =
-    let r = c .before .before .before in
-    record { whole = omega arith; read = read r (Value (c .before .read2 .given .0 .0)) (c .before .read2 .given .1) }
+valued c = record { whole = omega arith; read = read (reading c) (c .before .read2 .given .1) }
 
 kind : (c : tie.After-writable) {b : Bool} → c .writable .result ≡ b
-    → itemAt (blockItem (call (item (c .before .before .before .before)) .args .t4)) .writable ≡ b
-kind c e =
-    let i = item (c .before .before .before .before) in
-    ap (λ (k : ℕ). itemAt k .writable) (place (call i .args .t4) (i .i .given .0 .0) (at i)) ∙ sym (c .writable .ensures) ∙ e
+    → itemAt (blockItem (call (found-for (reading (c .before))) .args .t4)) .writable ≡ b
+kind c e = ap (λ (k : ℕ). itemAt k .writable) (item (found-for (reading (c .before)))) ∙ sym (c .writable .ensures) ∙ e
 
 ranged : (c : tie.After-in-range) {b : Bool} → c .in-range .result ≡ b
-    → let t = c .before .before .before in inRange (blockItem (call (item (t .before .before .before)) .args .t4)) (t .before .read2 .given .0 .0) ≡ b
+    → let t = c .before .before .before in
+    inRange (blockItem (call (found-for (reading t)) .args .t4)) (t .before .read2 .given .0 .0) ≡ b
 ranged c e =
     let t = c .before .before .before in
-    let i = item (t .before .before .before) in
-    ap₂ inRange (place (call i .args .t4) (i .i .given .0 .0) (at i)) (sym (same (t .before .read2 .given .0 .0) (t .known-told2 .given .0 .1)))
+    ap₂ inRange (item (found-for (reading t))) (sym (same (t .before .read2 .given .0 .0) (t .known-told2 .given .0 .1)))
     ∙ sym (c .in-range .ensures) ∙ e
 
 returns-7 : tie.Need-returns-7
 returns-7 c =
     let t = c .before .before in
-    let i = item (t .before .before .before) in
-    let s = call i .args in
-    read-only (s .mark) (s .bcc) (s .count) (s .t4) (s .c) (named i) (t .before .read2 .given .0 .0) (valued t) (kind (c .before) (not-true _ (c .if6 .taken)))
+    read-only (named (found-for (reading t))) (valued t) (kind (c .before) (not-true _ (c .if6 .taken)))
 
 returns-8 : tie.Need-returns-8
 returns-8 c =
-    let t = c .before .before .before .before in
-    let i = item (t .before .before .before) in
-    let s = call i .args in
-    out-of-range (s .mark) (s .bcc) (s .count) (s .t4) (s .c) (named i) (t .before .read2 .given .0 .0) (valued t)
-    (kind (c .before .before .before) (not-false _ (c .before .before .if6 .left))) (ranged (c .before) (not-true _ (c .if7 .taken)))
+    let w = c .before .before in
+    let t = w .before .before in
+    out-of-range (named (found-for (reading t))) (valued t) (kind (w .before) (not-false _ (w .if6 .left)))
+    (ranged (c .before) (not-true _ (c .if7 .taken)))
 
 returns-9 : tie.Need-returns-9
 returns-9 c =
-    let t = c .before .before .before .before in
-    let i = item (t .before .before .before) in
-    let s = call i .args in
-    stored (s .mark) (s .bcc) (s .count) (s .t4) (s .c) (named i) (t .before .read2 .given .0 .0) (valued t)
-    (kind (c .before .before .before) (not-false _ (c .before .before .if6 .left))) (ranged (c .before) (not-false _ (c .if7 .left)))
-    (i .i .given .0 .0) _ (sym (place (s .t4) (i .i .given .0 .0) (at i))) (same (t .before .read2 .given .0 .0) (t .known-told2 .given .0 .1))
+    let w = c .before .before in
+    let t = w .before .before in
+    stored (named (found-for (reading t))) (valued t) (kind (w .before) (not-false _ (w .if6 .left)))
+    (ranged (c .before) (not-false _ (c .if7 .left)))
+    (sym (item (found-for (reading t)))) (same (t .before .read2 .given .0 .0) (t .known-told2 .given .0 .1))
 
 pub judge-spec : {M : Type 1} → statement M
 judge-spec =
