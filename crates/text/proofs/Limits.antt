@@ -33,12 +33,14 @@ le-minus : (k n : ℕ) → leb (suc n) k ≡ leZ (minus k) (negsuc n)
 le-minus zero n = lt-leb (suc n) 0 (omega arith)
 le-minus (suc k) n = leb·suc-suc n k
 
-pub fits-between : (width d : ℕ) (v : ℤ) → fits width d v ≡ between (minus (10 ^ room width d true - 1)) (pos (10 ^ room width d false - 1)) v
+pub fits-between : (width d : ℕ) (v : ℤ)
+    → fits width d v ≡ between (minus (10 ^ room width d true - 1)) (pos (10 ^ room width d false - 1)) v
 unfolding fits
 fits-between width d (pos n) =
     rw (le-ltb n 0 zero-le, minus-le (10 ^ room width d true - 1) n) (nines (room width d false) n)
 fits-between width d (negsuc n) =
-    nines (room width d true) (suc n) ∙ le-minus (10 ^ room width d true - 1) n ∙ sym (and-true (leZ (minus (10 ^ room width d true - 1)) (negsuc n)))
+    let most = 10 ^ room width d true - 1 in
+    nines (room width d true) (suc n) ∙ le-minus most n ∙ sym (and-true (leZ (minus most) (negsuc n)))
 
 -- document 01's figures
 pub what-fits : WhatFits
@@ -49,7 +51,8 @@ what-fits = record { whole = fits-between 6 0; pointed = one-point }
     one-point (suc d) v h few = fits-between 6 (suc d) v
 
 -- the size of a value between two limits is at most that of the limit on its side of zero
-pub between-fits : (width d : ℕ) (low high v : ℤ) → leZ low v ≡ true → leZ v high ≡ true → fits width d low ≡ true → fits width d high ≡ true → fits width d v ≡ true
+pub between-fits : (width d : ℕ) (low high v : ℤ) → leZ low v ≡ true → leZ v high ≡ true → fits width d low ≡ true
+    → fits width d high ≡ true → fits width d v ≡ true
 unfolding fits
 between-fits width d low (pos m) (pos n) l h fl fh =
     let a = leb-true n m h in

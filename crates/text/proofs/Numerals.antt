@@ -22,7 +22,8 @@ digit-range c e = let p = both (leb zeroDigit c) (leb c nineDigit) e in (leb-tru
 
 pub all-append : (xs ys : List ℕ) → allDigits (xs ++ ys) ≡ (allDigits xs && allDigits ys)
 all-append [] ys = refl
-all-append (x ∷ xs) ys = ap (λ (b : Bool). isDigit x && b) (all-append xs ys) ∙ sym (and-assoc (isDigit x) (allDigits xs) (allDigits ys))
+all-append (x ∷ xs) ys =
+    ap (λ (b : Bool). isDigit x && b) (all-append xs ys) ∙ sym (and-assoc (isDigit x) (allDigits xs) (allDigits ys))
 
 -- both parts of a run of digits are digits
 pub parts-digits : (xs ys : List ℕ) → allDigits (xs ++ ys) ≡ true → (allDigits xs ≡ true) × (allDigits ys ≡ true)
@@ -41,7 +42,8 @@ number-below [] n k d h = rw add-zero h
 number-below (c ∷ cs) n k d h =
     let p = both (isDigit c) (allDigits cs) d in
     let q = digit-range c (p .0) in
-    rw (add-suc k (length cs), ← suc-add k (length cs)) (number-below cs (n * 10 + (c - zeroDigit)) (suc k) (p .1) (one-more n k (c - zeroDigit) h (omega arith)))
+    let more = one-more n k (c - zeroDigit) h (omega arith) in
+    rw (add-suc k (length cs), ← suc-add k (length cs)) (number-below cs (n * 10 + (c - zeroDigit)) (suc k) (p .1) more)
 
 -- ---- the number that digits write
 
@@ -53,7 +55,8 @@ number-append n (x ∷ xs) ys = number-append (n * 10 + (x - zeroDigit)) xs ys
 
 pub digits-length : (k n : ℕ) → length (digits k n) ≡ k
 digits-length zero n = refl
-digits-length (suc k) n = length-append (digits k (n / 10)) ((zeroDigit + n % 10) ∷ []) ∙ (let e = digits-length k (n / 10) in omega arith)
+digits-length (suc k) n =
+    let e = digits-length k (n / 10) in length-append (digits k (n / 10)) ((zeroDigit + n % 10) ∷ []) ∙ omega arith
 
 digits-digit : (n : ℕ) → isDigit (zeroDigit + n % 10) ≡ true
 digits-digit n = rw (le-leb zeroDigit (zeroDigit + n % 10) (omega arith), le-leb (zeroDigit + n % 10) nineDigit (omega arith))

@@ -33,13 +33,16 @@ no-point c d e = let p = digit-range c d in omega arith
 
 point-after : (xs ys : List ℕ) → allDigits xs ≡ true → pointAt (xs ++ (point ∷ ys)) ≡ length xs
 point-after [] ys a = refl
-point-after (x ∷ xs) ys a = let p = both (isDigit x) (allDigits xs) a in rw (ne-eqb x point (no-point x (p .0)), point-after xs ys (p .1))
+point-after (x ∷ xs) ys a =
+    let p = both (isDigit x) (allDigits xs) a in rw (ne-eqb x point (no-point x (p .0)), point-after xs ys (p .1))
 
 point-nowhere : (xs : List ℕ) → allDigits xs ≡ true → pointAt xs ≡ length xs
 point-nowhere [] a = refl
-point-nowhere (x ∷ xs) a = let p = both (isDigit x) (allDigits xs) a in rw (ne-eqb x point (no-point x (p .0)), point-nowhere xs (p .1))
+point-nowhere (x ∷ xs) a =
+    let p = both (isDigit x) (allDigits xs) a in rw (ne-eqb x point (no-point x (p .0)), point-nowhere xs (p .1))
 
-with-point : (minus : Bool) (d : ℕ) (xs ys : List ℕ) → allDigits xs ≡ true → ofUnsigned minus d (xs ++ (point ∷ ys)) ≡ ofParts minus d xs ys
+with-point : (minus : Bool) (d : ℕ) (xs ys : List ℕ) → allDigits xs ≡ true
+    → ofUnsigned minus d (xs ++ (point ∷ ys)) ≡ ofParts minus d xs ys
 with-point minus d xs ys a =
     rw (point-after xs ys a, take-append-seam xs (point ∷ ys), ← (add-one (length xs)), drop-append-add xs (point ∷ ys) 1)
 
@@ -48,13 +51,22 @@ without-point minus d xs a = rw (point-nowhere xs a, take-length xs, drop-of-len
 
 -- ---- the digits of a size say that size
 
+-- those before a point are digits too
+front-digits : (j k size : ℕ) → allDigits (take j (digits k size)) ≡ true
+front-digits j k size =
+    let ds = digits k size in
+    parts-digits (take j ds) (drop j ds) (ap allDigits (take-append-drop j ds) ∙ digits-all k size) .0
+
 module _ (minus : Bool) (k size : ℕ) (h : size < 10 ^ k) where
   -- as many digits after the point as decimals: the quotient is exact
-  parts-say : (d : ℕ) (xs ys : List ℕ) → xs ++ ys ≡ digits k size → 1 ≤ k → length ys ≡ d → ofParts minus d xs ys ≡ Value (signed minus size)
+  parts-say : (d : ℕ) (xs ys : List ℕ) → xs ++ ys ≡ digits k size → 1 ≤ k → length ys ≡ d
+      → ofParts minus d xs ys ≡ Value (signed minus size)
   parts-say d xs ys e some len =
       let l = ap length e ∙ digits-length k size in
+      let number = ap (numberFrom 0) e ∙ number-digits k size ∙ mod-eq-of-lt h in
+      let exact = mul-div-cancel (numberFrom 0 (xs ++ ys)) (one-le-pow d 10 (omega arith)) ∙ number in
       rw (ap allDigits e ∙ digits-all k size, le-leb 1 (length (xs ++ ys)) (omega arith), len)
-      (ap (λ (n : ℕ). Value (signed minus n)) (mul-div-cancel (numberFrom 0 (xs ++ ys)) (one-le-pow d 10 (omega arith)) ∙ ap (numberFrom 0) e ∙ number-digits k size ∙ mod-eq-of-lt h))
+      (ap (λ (n : ℕ). Value (signed minus n)) exact)
 
   pointed-says : (d : ℕ) → d < k → ofUnsigned minus d (pointed d (digits k size)) ≡ Value (signed minus size)
   pointed-says zero few =
@@ -66,7 +78,7 @@ module _ (minus : Bool) (k size : ℕ) (h : size < 10 ^ k) where
       let j = length ds - suc d in
       let e = take-append-drop j ds in
       let y = length-drop j ds in
-      with-point minus (suc d) (take j ds) (drop j ds) (parts-digits (take j ds) (drop j ds) (ap allDigits e ∙ digits-all k size) .0)
+      with-point minus (suc d) (take j ds) (drop j ds) (front-digits j k size)
       ∙ parts-say (suc d) (take j ds) (drop j ds) e (omega arith) (omega arith)
 
 -- ---- no digit is taken for a minus
@@ -85,7 +97,7 @@ no-minus (suc d) k size h e =
     let j = length ds - suc d in
     let len = digits-length k size in
     let x = length-take j ds in
-    first-digit (take j ds) (point ∷ drop j ds) (parts-digits (take j ds) (drop j ds) (ap allDigits (take-append-drop j ds) ∙ digits-all k size) .0) (omega arith) e
+    first-digit (take j ds) (point ∷ drop j ds) (front-digits j k size) (omega arith) e
 
 -- ---- the whole text
 
@@ -95,7 +107,8 @@ module _ (width d size : ℕ) (wide : 6 ≤ width) (few : d ≤ mostDecimals) wh
   text-says false h =
       let k = room width d false in
       let r = enough-room width d false wide few in
-      sym (without-minus d (pointed d (digits k size)) (let l = text-length width d false size wide few in omega arith) (no-minus d k size (r .0)))
+      let l = text-length width d false size wide few in
+      sym (without-minus d (pointed d (digits k size)) (omega arith) (no-minus d k size (r .0)))
       ∙ pointed-says false k size h d (r .0)
 
 pub demand-2 : Demand2
@@ -107,5 +120,6 @@ demand-2 width d v wide few f =
     let w = fitting width d v few f in
     let e = le-leb d mostDecimals few in
     let s = le-leb (length chars) width (omega arith) in
-    let r = text-says width d (natAbs v) wide few minus (ltb-true (natAbs v) (10 ^ room width d minus) f) ∙ ap Value (sym (by-sign v)) in
+    let room = ltb-true (natAbs v) (10 ^ room width d minus) f in
+    let r = text-says width d (natAbs v) wide few minus room ∙ ap Value (sym (by-sign v)) in
     record { isWritten = rw w; isRead = rw (w, e, s, r); same = rw (w, e, s, r) }

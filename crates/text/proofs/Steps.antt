@@ -30,7 +30,8 @@ module _ (cs : List ℕ) (i : ℕ) (h : i < length cs) where
   pub point-later : (getD cs i 0 ≡ point → ⊥) → pointAt (drop i cs) ≡ suc (pointAt (drop (suc i) cs))
   point-later e = rw (drop-cons cs i 0 h, ne-eqb _ _ e)
 
-  pub digit-here : (n : ℕ) → isDigit (getD cs i 0) ≡ true → digitsFrom n (drop i cs) ≡ digitsFrom (n * 10 + (getD cs i 0 - zeroDigit)) (drop (suc i) cs)
+  pub digit-here : (n : ℕ) → isDigit (getD cs i 0) ≡ true
+      → digitsFrom n (drop i cs) ≡ digitsFrom (n * 10 + (getD cs i 0 - zeroDigit)) (drop (suc i) cs)
   digit-here n e = rw (drop-cons cs i 0 h, e)
 
   pub other-here : (n : ℕ) → isDigit (getD cs i 0) ≡ false → digitsFrom n (drop i cs) ≡ Other
@@ -54,13 +55,17 @@ pub found-below : (k n : ℕ) (cs : List ℕ) (m : ℕ) → n < 10 ^ k → digit
 found-below k n cs m h e = let p = number-found n cs m e in rw (p .1) (number-below cs n k (p .0) h)
 
 -- the digits before the point and those after it make one number
-pub number-small : (whole fraction : List ℕ) (front n : ℕ) → digitsFrom 0 whole ≡ Number front → digitsFrom front fraction ≡ Number n → n < 10 ^ (length whole + length fraction)
-number-small whole fraction front n w f = found-below (length whole) front fraction n (rw (zero-add (length whole)) at (found-below 0 0 whole front (omega arith) w)) f
+pub number-small : (whole fraction : List ℕ) (front n : ℕ) → digitsFrom 0 whole ≡ Number front
+    → digitsFrom front fraction ≡ Number n → n < 10 ^ (length whole + length fraction)
+number-small whole fraction front n w f =
+    let small = rw (zero-add (length whole)) at (found-below 0 0 whole front (omega arith) w) in
+    found-below (length whole) front fraction n small f
 
 -- ---- what the parts before and after the point say
 
 module _ (minus : Bool) (d : ℕ) (whole fraction : List ℕ) where
-  refused-by : (allDigits (whole ++ fraction) && leb 1 (length (whole ++ fraction))) ≡ false → NoNumber ≡ ofParts minus d whole fraction
+  refused-by : (allDigits (whole ++ fraction) && leb 1 (length (whole ++ fraction))) ≡ false
+      → NoNumber ≡ ofParts minus d whole fraction
   refused-by e = rw e
 
   pub no-whole : digitsFrom 0 whole ≡ Other → NoNumber ≡ ofParts minus d whole fraction
@@ -68,21 +73,26 @@ module _ (minus : Bool) (d : ℕ) (whole fraction : List ℕ) where
 
   pub no-fraction : (front : ℕ) → digitsFrom front fraction ≡ Other → NoNumber ≡ ofParts minus d whole fraction
   no-fraction front e =
-      refused-by (rw (all-append whole fraction, other-of (allDigits fraction) (numberFrom front fraction) e, and-false (allDigits whole)))
+      let other = other-of (allDigits fraction) (numberFrom front fraction) e in
+      refused-by (rw (all-append whole fraction, other, and-false (allDigits whole)))
 
   pub no-digits : length whole + length fraction ≡ 0 → NoNumber ≡ ofParts minus d whole fraction
   no-digits e = refused-by (rw (length-append whole fraction, e, and-false (allDigits (whole ++ fraction))))
 
-  pub digits-say : (front n : ℕ) → digitsFrom 0 whole ≡ Number front → digitsFrom front fraction ≡ Number n → (length whole + length fraction ≡ 0 → ⊥) → Value (signed minus (n * 10 ^ d / 10 ^ length fraction)) ≡ ofParts minus d whole fraction
+  pub digits-say : (front n : ℕ) → digitsFrom 0 whole ≡ Number front → digitsFrom front fraction ≡ Number n
+      → (length whole + length fraction ≡ 0 → ⊥)
+      → Value (signed minus (n * 10 ^ d / 10 ^ length fraction)) ≡ ofParts minus d whole fraction
   digits-say front n w f some =
       let p = number-found 0 whole front w in
       let q = number-found front fraction n f in
       let l = length-append whole fraction in
-      rw (all-append whole fraction, p .0, q .0, le-leb 1 (length (whole ++ fraction)) (omega arith), number-append 0 whole fraction, ← (p .1), ← (q .1)) refl
+      let one = le-leb 1 (length (whole ++ fraction)) (omega arith) in
+      rw (all-append whole fraction, p .0, q .0, one, number-append 0 whole fraction, ← (p .1), ← (q .1))
 
 -- a number of k digits, times at most 1000, and what a quotient leaves of that
 pub scaled : (k n d : ℕ) → n < 10 ^ k → d ≤ mostDecimals → n * 10 ^ d < 10 ^ (k + mostDecimals)
-scaled k n d h few = let p = mul-le-mul-left n (pow-le-pow-right {n = 10} (omega arith) few) in rw (pow-add 10 k mostDecimals) (omega arith)
+scaled k n d h few =
+    let p = mul-le-mul-left n (pow-le-pow-right {n = 10} (omega arith) few) in rw (pow-add 10 k mostDecimals) (omega arith)
 
 pub sized : (k n d q : ℕ) → n < 10 ^ k → d ≤ mostDecimals → n * 10 ^ d / q < 10 ^ (k + mostDecimals)
 sized k n d q h few = let p = div-le-self (n * 10 ^ d) q in let m = scaled k n d h few in omega arith
@@ -111,11 +121,13 @@ sign-within cs h = go (minusFirst cs)
     go false = omega arith
 
 -- the number starts after the minus, or with the first character
-pub sign-apart : (d : ℕ) (cs : List ℕ) → 0 < length cs → ofUnsigned (minusFirst cs) d (drop (boolByte (minusFirst cs)) cs) ≡ ofText d cs
+pub sign-apart : (d : ℕ) (cs : List ℕ) → 0 < length cs
+    → ofUnsigned (minusFirst cs) d (drop (boolByte (minusFirst cs)) cs) ≡ ofText d cs
 sign-apart d [] h = absurd (omega arith)
 sign-apart d (c ∷ cs) h = go (eqb c minusSign)
   where
-    go : (minus : Bool) → ofUnsigned minus d (drop (boolByte minus) (c ∷ cs)) ≡ cond minus (ofUnsigned true d cs) (ofUnsigned false d (c ∷ cs))
+    go : (minus : Bool)
+        → ofUnsigned minus d (drop (boolByte minus) (c ∷ cs)) ≡ cond minus (ofUnsigned true d cs) (ofUnsigned false d (c ∷ cs))
     go true = refl
     go false = refl
 

@@ -27,7 +27,8 @@ points-few : (d : ℕ) → points d ≤ 1
 points-few zero = omega arith
 points-few (suc d) = omega arith
 
-pub enough-room : (width d : ℕ) (minus : Bool) → 6 ≤ width → d ≤ mostDecimals → (d < room width d minus) × (length (signText minus) + (room width d minus + points d) ≡ width)
+pub enough-room : (width d : ℕ) (minus : Bool) → 6 ≤ width → d ≤ mostDecimals
+    → (d < room width d minus) × (length (signText minus) + (room width d minus + points d) ≡ width)
 enough-room width d true wide few = let p = points-few d in (omega arith, omega arith)
 enough-room width d false wide few = let p = points-few d in (omega arith, omega arith)
 
@@ -41,7 +42,8 @@ pointed-length (suc d) ds h =
     let y = length-drop j ds in
     length-append (take j ds) (point ∷ drop j ds) ∙ omega arith
 
-pub text-length : (width d : ℕ) (minus : Bool) (size : ℕ) → 6 ≤ width → d ≤ mostDecimals → length (textOf width d minus size) ≡ width
+pub text-length : (width d : ℕ) (minus : Bool) (size : ℕ) → 6 ≤ width → d ≤ mostDecimals
+    → length (textOf width d minus size) ≡ width
 text-length width d minus size wide few =
     let ds = digits (room width d minus) size in
     let r = enough-room width d minus wide few in

@@ -3,7 +3,7 @@
 -- Assumes nothing.
 use mathlib.Core.Path.{_≡_, refl, sym, _∙_}
 use mathlib.Core.Bool.{true}
-use Prim.Native.Nat.{_≤_, _<_, _+_, _-_, _^_}
+use Prim.Native.Nat.{ℕ, _≤_, _<_, _+_, _-_, _^_}
 use native.Mathlib.Numerals.{add-one}
 use native.Mathlib.Nat.{add-suc}
 use native.Mathlib.Omega.{arith}
@@ -17,13 +17,16 @@ use Rattle.text.proofs.digits_from.Statement.{statement}
 use Rattle.text.proofs.digits_from.Tie as tie
 
 abbrev Inv-loop : tie.InvT-loop
-Inv-loop from chars n₀ i₀ n i = (i ≤ length chars) × (n < 10 ^ (6 - length chars + i)) × (digitsFrom n (drop i chars) ≡ digitsFrom from chars)
+Inv-loop from chars n₀ i₀ n i =
+    (i ≤ length chars) × (n < 10 ^ (6 - length chars + i)) × (digitsFrom n (drop i chars) ≡ digitsFrom from chars)
 
 abbrev μ-loop : tie.MeasureT-loop
 μ-loop from chars n₀ i₀ n i = length chars - i
 
 loop-holds : tie.Need-loop-holds Inv-loop μ-loop
-loop-holds c = (omega arith, at-most (c .before .args .from) (6 - length (c .before .args .chars .now)) (6 - length (c .before .args .chars .now) + 0) (c .before .pre .1) (omega arith), refl)
+loop-holds c =
+    let room = 6 - length (c .before .args .chars .now) in
+    (omega arith, at-most (c .before .args .from) room (room + 0) (c .before .pre .1) (omega arith), refl)
 
 shared-slice-read-c : tie.Need-shared-slice-read-c Inv-loop μ-loop
 shared-slice-read-c c = omega arith
@@ -32,17 +35,22 @@ is-digit-requires : tie.Need-is-digit-requires Inv-loop μ-loop
 is-digit-requires c κs = search needs
 
 -- the character that a turn takes in is a digit, and the number so far has at most five
-digit : (c : tie.Then1 Inv-loop μ-loop) → isDigit (getD (c .before .before .before .before .before .before .args .chars .now) (c .before .before .before .before .loop .i) 0) ≡ true
+abbrev taken-in : tie.Then1 Inv-loop μ-loop → ℕ
+taken-in c =
+    let l = c .before .before .before .before in
+    getD (l .before .before .args .chars .now) (l .loop .i) 0
+
+digit : (c : tie.Then1 Inv-loop μ-loop) → isDigit (taken-in c) ≡ true
 digit c = sym (c .before .is-digit .ensures) ∙ c .if1 .taken
 
-range : (c : tie.Then1 Inv-loop μ-loop) →
-    let x = getD (c .before .before .before .before .before .before .args .chars .now) (c .before .before .before .before .loop .i) 0 in (zeroDigit ≤ x) × (x ≤ nineDigit)
-range c = digit-range (getD (c .before .before .before .before .before .before .args .chars .now) (c .before .before .before .before .loop .i) 0) (digit c)
+range : (c : tie.Then1 Inv-loop μ-loop) → (zeroDigit ≤ taken-in c) × (taken-in c ≤ nineDigit)
+range c = digit-range (taken-in c) (digit c)
 
 small : (c : tie.Then1 Inv-loop μ-loop) → c .before .before .before .before .loop .n < 10 ^ 5
 small c =
     let l = c .before .before .before .before in
-    at-most (l .loop .n) (6 - length (l .before .before .args .chars .now) + l .loop .i) 5 (l .loop .inv .1) (omega (arith, l .before .before .pre .0))
+    let s = l .before .before in
+    at-most (l .loop .n) (6 - length (s .args .chars .now) + l .loop .i) 5 (l .loop .inv .1) (omega (arith, s .pre .0))
 
 mul-n : tie.Need-mul-n Inv-loop μ-loop
 mul-n c = let h = small c in omega arith
@@ -59,7 +67,9 @@ add-n c = let h = small c in let r = range c in omega arith
 returns : tie.Need-returns Inv-loop μ-loop
 returns c =
     let l = c .before .before .before .before in
-    sym (other-here (l .before .before .args .chars .now) (l .loop .i) (c .before .before .before .loop-test .taken) (l .loop .n) (sym (c .before .is-digit .ensures) ∙ c .if1 .left)) ∙ l .loop .inv .2
+    let inside = c .before .before .before .loop-test .taken in
+    let other = sym (c .before .is-digit .ensures) ∙ c .if1 .left in
+    sym (other-here (l .before .before .args .chars .now) (l .loop .i) inside (l .loop .n) other) ∙ l .loop .inv .2
 
 add-i : tie.Need-add-i Inv-loop μ-loop
 add-i c = omega arith
@@ -74,12 +84,13 @@ loop-again c =
     let r = range c in
     rw (add-one (l .loop .i), add-suc (6 - length chars) (l .loop .i)) (
       omega arith,
-      one-more (l .loop .n) (6 - length chars + l .loop .i) (getD chars (l .loop .i) 0 - zeroDigit) (l .loop .inv .1) (omega arith),
+      one-more (l .loop .n) (6 - length chars + l .loop .i) (taken-in c - zeroDigit) (l .loop .inv .1) (omega arith),
       sym (digit-here chars (l .loop .i) (c .before .before .before .loop-test .taken) (l .loop .n) (digit c)) ∙ l .loop .inv .2,
     )
 
 returns-2 : tie.Need-returns-2 Inv-loop μ-loop
-returns-2 c = rw (drop-of-length-le (c .before .before .before .args .chars .now) (c .loop-test .left)) at (c .before .loop .inv .2)
+returns-2 c =
+    rw (drop-of-length-le (c .before .before .before .args .chars .now) (c .loop-test .left)) at (c .before .loop .inv .2)
 
 pub digits-from-spec : {M : Type 1} → statement M
 digits-from-spec =

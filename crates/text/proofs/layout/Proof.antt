@@ -61,7 +61,8 @@ first-requires-4 : tie.Need-first-requires-4
 first-requires-4 c κs = search needs
 
 -- the first place holds the minus or the first digit, and the others are the same with either
-either-sign : (text : Bool → List ℕ) (minus : Bool) (digit : ℕ) (cs : List ℕ) → (minusSign ∷ cs) ≡ text true → (digit ∷ cs) ≡ text false → (cond minus minusSign digit ∷ cs) ≡ text minus
+either-sign : (text : Bool → List ℕ) (minus : Bool) (digit : ℕ) (cs : List ℕ) → (minusSign ∷ cs) ≡ text true
+    → (digit ∷ cs) ≡ text false → (cond minus minusSign digit ∷ cs) ≡ text minus
 either-sign text true digit cs t f = t
 either-sign text false digit cs t f = f
 

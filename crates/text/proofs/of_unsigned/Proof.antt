@@ -26,18 +26,24 @@ point-in : (c : tie.After-point-at) → c .point-at .result ≤ length (c .befor
 point-in c = rw (c .point-at .ensures) (point-within (c .before .before .args .chars .now))
 
 -- the place after it is at least the point and at most the length
-after-in : (c : tie.Joined1) → (c .before .point-at .result ≤ c .if1 .after) × (c .if1 .after ≤ length (c .before .before .before .args .chars .now))
-after-in c = let h = point-in (c .before) in ⊎-elim (λ w. (omega arith, omega arith)) (λ w. (omega arith, omega arith)) (c .if1 .came)
+after-in : (c : tie.Joined1)
+    → (c .before .point-at .result ≤ c .if1 .after) × (c .if1 .after ≤ length (c .before .before .before .args .chars .now))
+after-in c =
+    let h = point-in (c .before) in
+    ⊎-elim (λ w. (omega arith, omega arith)) (λ w. (omega arith, omega arith)) (c .if1 .came)
 
 -- what stands at that place is what the definition has after the point
-fraction : (c : tie.Joined1) → drop (c .if1 .after) (c .before .before .before .args .chars .now) ≡ drop (suc (pointAt (c .before .before .before .args .chars .now))) (c .before .before .before .args .chars .now)
+fraction : (c : tie.Joined1) → let chars = c .before .before .before .args .chars .now in
+    drop (c .if1 .after) chars ≡ drop (suc (pointAt chars)) chars
 fraction c =
     let chars = c .before .before .before .args .chars .now in
     let p = c .before .point-at .ensures in
-    ⊎-elim (λ w. rw (w .1, add-one (c .before .point-at .result), p)) (λ w. rw (w .1, p) (nothing-after chars (rw p at (w .0 .left)))) (c .if1 .came)
+    ⊎-elim (λ w. rw (w .1, add-one (c .before .point-at .result), p)) (λ w. rw (w .1, p) (nothing-after chars (rw p at (w .0 .left))))
+    (c .if1 .came)
 
 slice-aggregate-of-parts : tie.Need-slice-aggregate-of-parts
-slice-aggregate-of-parts c = let p = c .before .before in sym (length-take-le (p .point-at .result) (p .before .before .args .chars .now) (point-in p))
+slice-aggregate-of-parts c =
+    let p = c .before .before in sym (length-take-le (p .point-at .result) (p .before .before .args .chars .now) (point-in p))
 
 sub-of-parts : tie.Need-sub-of-parts
 sub-of-parts c = after-in (c .before .before) .1

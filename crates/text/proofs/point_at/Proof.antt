@@ -36,10 +36,14 @@ loop-less c = omega arith
 loop-again : tie.Need-loop-again Inv-loop μ-loop
 loop-again c =
     let l = c .before .before .before in
-    rw add-one (omega (arith, point-later (l .before .args .chars .now) (l .loop .i) (c .before .before .loop-test .taken) (c .if1 .left)))
+    let later = point-later (l .before .args .chars .now) (l .loop .i) (c .before .before .loop-test .taken) (c .if1 .left) in
+    rw add-one (omega arith)
 
 returns-2 : tie.Need-returns-2 Inv-loop μ-loop
-returns-2 c = let e = rw (drop-of-length-le (c .before .before .args .chars .now) (c .loop-test .left)) at (c .before .loop .inv .1) in omega arith
+returns-2 c =
+    let none = drop-of-length-le (c .before .before .args .chars .now) (c .loop-test .left) in
+    let e = rw none at (c .before .loop .inv .1) in
+    omega arith
 
 pub point-at-spec : {M : Type 1} → statement M
 point-at-spec =

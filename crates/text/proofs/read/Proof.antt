@@ -25,7 +25,8 @@ returns-2 c =
 returns-3 : tie.Need-returns-3
 returns-3 c =
     let s = c .before .before .before .before .args in
-    read-text width (s .decimals) (s .chars .now) (omega arith) (omega arith) (rw (drop-of-length-le (s .chars .now) {i = 0} (omega arith)) refl)
+    let empty = drop-of-length-le (s .chars .now) {i = 0} (omega arith) in
+    read-text width (s .decimals) (s .chars .now) (omega arith) (omega arith) (rw empty refl)
 
 shared-slice-read-minus : tie.Need-shared-slice-read-minus
 shared-slice-read-minus c = search needs
@@ -52,7 +53,9 @@ returns-4 c =
     let chars = s .chars .now in
     let minus = minusFirst chars in
     read-text width (s .decimals) chars (omega arith) (omega arith)
-    (c .of-unsigned .ensures ∙ ap (ofUnsigned minus (s .decimals)) (part-to-end chars (boolByte minus)) ∙ sign-apart (s .decimals) chars (omega arith))
+    (c .of-unsigned .ensures
+    ∙ ap (ofUnsigned minus (s .decimals)) (part-to-end chars (boolByte minus))
+    ∙ sign-apart (s .decimals) chars (omega arith))
 
 pub read-spec : {M : Type 1} → statement M
 read-spec =

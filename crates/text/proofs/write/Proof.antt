@@ -1,5 +1,5 @@
--- `text::write` meets its contract: what the calls tell of sign, size and limit makes the definition's tests come out as the code's
--- did.
+-- `text::write` meets its contract: what the calls tell of sign, size and limit makes the definition's tests come out as the
+-- code's did.
 -- Assumes nothing.
 use mathlib.Core.Path.{_≡_, sym, ap, _∙_}
 use mathlib.Core.Bool.{Bool}
@@ -46,7 +46,8 @@ found : (c : tie.After-limit) →
 found c =
     let s = c .before .before .before .before in
     let m = less-of (s .args .value) (pos 0) (s .fits .value .sfits) (omega arith) (c .before .before .less .ensures) in
-    (m, size-of (s .args .value) (s .fits .value .sfits) (c .before .size .ensures), c .limit .ensures ∙ ap (λ (b : Bool). 10 ^ room 6 (s .args .decimals) b) m)
+    let z = size-of (s .args .value) (s .fits .value .sfits) (c .before .size .ensures) in
+    (m, z, c .limit .ensures ∙ ap (λ (b : Bool). 10 ^ room 6 (s .args .decimals) b) m)
 
 returns-2 : tie.Need-returns-2
 unfolding fits text
@@ -54,7 +55,7 @@ returns-2 c =
     let l = c .before .before in
     let s = l .before .before .before .before .args in
     let f = found l in
-    let fit = lt-ltb (natAbs (s .value)) (10 ^ room 6 (s .decimals) (ltZ (s .value) (pos 0))) (rw (f .1, f .2) at (c .before .if2 .taken)) in
+    let fit = lt-ltb (natAbs (s .value)) _ (rw (f .1, f .2) at (c .before .if2 .taken)) in
     ap accepted (c .layout .ensures ∙ rw (f .0, f .1)) ∙ sym (fitting 6 (s .decimals) (s .value) (omega arith) fit)
 
 returns-3 : tie.Need-returns-3
@@ -63,7 +64,7 @@ returns-3 c =
     let l = c .before .before in
     let s = l .before .before .before .before .args in
     let f = found l in
-    let unfit = le-ltb (natAbs (s .value)) (10 ^ room 6 (s .decimals) (ltZ (s .value) (pos 0))) (rw (f .1, f .2) at (c .before .if2 .left)) in
+    let unfit = le-ltb (natAbs (s .value)) _ (rw (f .1, f .2) at (c .before .if2 .left)) in
     c .refused2 .ensures ∙ sym (not-fitting 6 (s .decimals) (s .value) (omega arith) unfit)
 
 pub write-spec : {M : Type 1} → statement M
