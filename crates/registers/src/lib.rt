@@ -89,17 +89,14 @@ fn in_map(start: u16, quantity: u16) -> bool
 pub fn read_fault(body: &[u8]) -> u8
     ensures { λ r. ⌜ r ≡ readFault (now (body .entry)) ⌝ }
 {
-    if body.len() != BODY_LENGTH {
+    let quantity = second_word(body);
+    if body.len() != BODY_LENGTH || quantity < 1 || MOST_REGISTERS < quantity {
         return WRONG_DATA;
     }
-    let quantity = second_word(body);
-    match quantity {
-        1..=MOST_REGISTERS => if in_map(first_word(body), quantity) {
-            NONE
-        } else {
-            WRONG_REGISTER
-        },
-        _ => WRONG_DATA,
+    if in_map(first_word(body), quantity) {
+        NONE
+    } else {
+        WRONG_REGISTER
     }
 }
 
@@ -123,14 +120,13 @@ pub fn write_fault(body: &[u8]) -> u8
         return WRONG_DATA;
     }
     let i = place_of(first_word(body));
-    if items::writable(i) {
-        if items::in_range(i, of_register(second_word(body))) {
-            NONE
-        } else {
-            WRONG_DATA
-        }
+    if !items::writable(i) {
+        return WRONG_REGISTER;
+    }
+    if items::in_range(i, of_register(second_word(body))) {
+        NONE
     } else {
-        WRONG_REGISTER
+        WRONG_DATA
     }
 }
 
@@ -151,10 +147,7 @@ pub fn store_value(table: &mut [i32], body: &[u8])
 pub fn loopback_fault(body: &[u8]) -> u8
     ensures { λ r. ⌜ r ≡ loopbackFault (now (body .entry)) ⌝ }
 {
-    if body.len() != BODY_LENGTH {
-        return WRONG_DATA;
-    }
-    if first_word(body) == 0 {
+    if body.len() == BODY_LENGTH && first_word(body) == 0 {
         NONE
     } else {
         WRONG_DATA

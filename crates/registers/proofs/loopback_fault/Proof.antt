@@ -1,26 +1,29 @@
--- `registers::loopback_fault` meets its contract: each way out is one of the rules of a loopback. Assumes nothing.
-use mathlib.Core.Path.{sym, _∙_}
-use borrow.Author.Tests.{eq-eqb, ne-eqb}
+-- `registers::loopback_fault` meets its contract: the length and the test code are right, or one of them is not. Assumes nothing.
+use mathlib.Core.Path.{sym, ap, _∙_}
+use mathlib.Core.Logic.{⊎-elim}
+use Prim.Native.Nat.{ℕ}
+use borrow.Author.Tests.{ne-eqb}
+use lib.Dec.{eqb}
 use Rattle.registers.specs.Faults.{loopbackFault}
 use Rattle.registers.proofs.Faults.{loopback-coded}
 use borrow.Author.Needs.{needs}
 use Rattle.registers.proofs.loopback_fault.Statement.{statement}
 use Rattle.registers.proofs.loopback_fault.Tie as tie
 
-returns : tie.Need-returns
-unfolding loopbackFault
-returns c = rw (ne-eqb _ _ (c .if1 .taken))
-
 first-word-requires : tie.Need-first-word-requires
 first-word-requires c κs = search needs
 
-returns-2 : tie.Need-returns-2
-returns-2 c =
-    sym (loopback-coded _ (c .before .before .if1 .left) (sym (eq-eqb _ _ (sym (c .before .first-word .ensures) ∙ c .if2 .taken))))
+returns : tie.Need-returns
+returns c =
+    sym (loopback-coded _ (c .before .before .if1 .taken) (sym (c .if2 .taken) ∙ ap (λ (n : ℕ). eqb n 0) (c .before .first-word .ensures)))
 
-returns-3 : tie.Need-returns-3
-returns-3 c =
-    sym (loopback-coded _ (c .before .before .if1 .left) (sym (ne-eqb _ _ (λ z. c .if2 .left (c .before .first-word .ensures ∙ z)))))
+returns-2 : tie.Need-returns-2
+unfolding loopbackFault
+returns-2 c =
+    ⊎-elim
+    (λ w. sym (loopback-coded (c .before .before .args .body .now) (w .0 .taken) (sym (w .2 .left) ∙ ap (λ (n : ℕ). eqb n 0) (w .1 .ensures))))
+    (λ w. rw (ne-eqb _ _ (w .left)))
+    (c .if1 .came)
 
 pub loopback-fault-spec : {M : Type 1} → statement M
-loopback-fault-spec = tie.close (tie.spec returns first-word-requires returns-2 returns-3)
+loopback-fault-spec = tie.close (tie.spec first-word-requires returns returns-2)

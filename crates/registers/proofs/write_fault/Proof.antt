@@ -2,7 +2,7 @@
 use mathlib.Core.Path.{_≡_, sym, ap, ap₂, _∙_}
 use mathlib.Core.Bool.{Bool}
 use Prim.Native.Nat.{ℕ}
-use borrow.Author.Tests.{ne-eqb}
+use borrow.Author.Tests.{ne-eqb, not-true, not-false}
 use Rattle.numbers.specs.Numbers.{unless}
 use Rattle.sign.proofs.Laws.{same}
 use Rattle.items.specs.ItemList.{itemAt, inRange}
@@ -33,6 +33,9 @@ place c = c .place-of .ensures ∙ ap placeOf (c .before .first-word .ensures)
 kind : (c : tie.After-writable) → c .writable .result ≡ writable (firstWord (c .before .before .before .before .before .args .body .now))
 kind c = c .writable .ensures ∙ ap (λ (i : ℕ). itemAt i .writable) (place (c .before))
 
+returns-2 : tie.Need-returns-2
+returns-2 c = sym (write-refused _ (c .before .before .before .before .if1 .left) (sym (kind (c .before)) ∙ not-true _ (c .if2 .taken)))
+
 second-word-requires : tie.Need-second-word-requires
 second-word-requires c κs = search needs
 
@@ -48,18 +51,15 @@ ranged : (c : tie.After-in-range) →
 ranged c =
     let w = c .before .before .before in
     let value = c .before .of-register in
-    write-ranged _ (w .before .before .before .before .if1 .left) (sym (kind (w .before)) ∙ w .if2 .taken)
+    write-ranged _ (w .before .before .before .before .if1 .left) (sym (kind (w .before)) ∙ not-false _ (w .if2 .left))
     (c .in-range .ensures
     ∙ ap₂ inRange (place (w .before .before)) (same (value .result) (value .ok) ∙ value .ensures ∙ ap ofRegister (c .before .before .second-word .ensures)))
 
-returns-2 : tie.Need-returns-2
-returns-2 c = sym (ranged (c .before) ∙ ap (λ (b : Bool). unless b wrongData) (c .if3 .taken))
-
 returns-3 : tie.Need-returns-3
-returns-3 c = sym (ranged (c .before) ∙ ap (λ (b : Bool). unless b wrongData) (c .if3 .left))
+returns-3 c = sym (ranged (c .before) ∙ ap (λ (b : Bool). unless b wrongData) (c .if3 .taken))
 
 returns-4 : tie.Need-returns-4
-returns-4 c = sym (write-refused _ (c .before .before .before .before .if1 .left) (sym (kind (c .before)) ∙ c .if2 .left))
+returns-4 c = sym (ranged (c .before) ∙ ap (λ (b : Bool). unless b wrongData) (c .if3 .left))
 
 pub write-fault-spec : {M : Type 1} → statement M
 write-fault-spec =
@@ -69,9 +69,9 @@ write-fault-spec =
     first-word-requires
     place-of-requires
     writable-requires
+    returns-2
     second-word-requires
     of-register-requires
     in-range-requires
-    returns-2
     returns-3
     returns-4)
