@@ -1,5 +1,4 @@
 pub mod Lists
-pub mod Bytes
 pub mod Used
 pub mod Cases
 pub mod Limits

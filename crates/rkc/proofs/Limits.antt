@@ -11,6 +11,7 @@ use lib.IntN.{ℤ}
 use lib.ListN.{getD, set}
 use Rattle.numbers.specs.Numbers.{none}
 use Rattle.numbers.proofs.Tests.{both, chosen}
+use Rattle.kept.specs.Kept.{upTo}
 use Rattle.items.specs.declared.Found.{Found}
 use Rattle.items.specs.declared.Found.the-variants.{At, Nothing}
 use Rattle.items.specs.ItemList.{items, itemAt, found}
@@ -28,7 +29,7 @@ use Rattle.block.specs.Block.{verdict}
 use Rattle.block.specs.declared.Verdict.{Verdict}
 use Rattle.block.specs.declared.Verdict.the-variants.{Store, Refuse}
 use Rattle.rkc.specs.declared.Link.{Link}
-use Rattle.rkc.specs.State.{inPhase, holdingOne, holdingTwo, waitingOn, block, upTo, inBlock, used, isCharacter, allCharacters}
+use Rattle.rkc.specs.State.{inPhase, holdingOne, holdingTwo, waitingOn, block, inBlock, used, isCharacter, allCharacters}
 use Rattle.rkc.specs.State.{mostCounted, blockInLimits, inLimits, oneMore, withMore, withEnd}
 use Rattle.rkc.specs.Outcome.{Step, asked, itemSent, polled, judged, performed}
 use Rattle.rkc.proofs.Used.{used-phase, asked-used}

@@ -2,14 +2,16 @@
 -- Assumes nothing.
 use mathlib.Core.Path.{_≡_, refl, sym, ap}
 use mathlib.Core.Bool.{Bool, true, false, cond, not, _||_}
-use mathlib.Core.List.{List, [], _∷_}
-use Prim.Native.Nat.{ℕ, zero, suc, _/_, _%_, _<_, _≤_}
+use mathlib.Core.List.{List}
+use Prim.Native.Nat.{ℕ, _/_, _%_, _≤_}
 use native.Mathlib.Omega.{arith}
 use borrow.Author.Tests.{eqb-true, ltb-false}
 use lib.Dec.{eqb, ltb}
 use lib.IntN.{ℤ}
 use lib.ListN.{getD, take, drop}
 use Rattle.numbers.proofs.Tests.{chosen}
+use Rattle.kept.specs.Kept.{upTo}
+use Rattle.kept.proofs.Cut.{up-to-at, up-to-take}
 use Rattle.items.specs.declared.Found.{Found}
 use Rattle.items.specs.declared.Found.the-variants.{At, Nothing}
 use Rattle.items.specs.ItemList.{items, itemAt, found}
@@ -23,7 +25,7 @@ use Rattle.text.specs.declared.Reading.the-variants.{TooLong}
 use Rattle.block.specs.Block.{lineError, wrongBcc, underTwo, identifierLength, mostKept, refuseIf, valueFor, forFound, verdict}
 use Rattle.block.specs.declared.Verdict.{Verdict}
 use Rattle.rkc.specs.declared.Link.{Link}
-use Rattle.rkc.specs.State.{inPhase, holdingOne, holdingTwo, waitingOn, upTo, asBlock, inBlock, used}
+use Rattle.rkc.specs.State.{inPhase, holdingOne, holdingTwo, waitingOn, asBlock, inBlock, used}
 use Rattle.rkc.specs.Outcome.{performed, asked}
 
 -- ---- the phase, and the time that waiting uses
@@ -46,17 +48,6 @@ unfolding used
 used-waiting l e = rw e
 
 -- ---- kept characters past the count
-
-up-to-at : (n : ℕ) (l : List ℕ) (i : ℕ) → i < n → getD (upTo n l) i 0 ≡ getD l i 0
-up-to-at n [] i h = refl
-up-to-at zero (c ∷ cs) i h = absurd (omega arith)
-up-to-at (suc n) (c ∷ cs) zero h = refl
-up-to-at (suc n) (c ∷ cs) (suc i) h = up-to-at n cs i (omega arith)
-
-up-to-take : (n : ℕ) (l : List ℕ) → take n (upTo n l) ≡ take n l
-up-to-take n [] = refl
-up-to-take zero (c ∷ cs) = refl
-up-to-take (suc n) (c ∷ cs) = ap (λ (r : List ℕ). c ∷ r) (up-to-take n cs)
 
 -- the verdict on a block does not look at them
 module _ (count : ℕ) (kept : List ℕ) where

@@ -1,4 +1,3 @@
-pub mod Bytes
 pub mod State
 pub mod Outcome
 pub mod Promise

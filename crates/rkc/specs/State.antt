@@ -1,10 +1,11 @@
 -- The states of the link: what each phase uses, and the limits of it.
 use mathlib.Core.Bool.{Bool, true, false, cond, _&&_, _||_}
 use mathlib.Core.List.{List, [], _∷_}
-use Prim.Native.Nat.{ℕ, zero, suc, _+_}
+use Prim.Native.Nat.{ℕ, _+_}
 use lib.Bits.{bitXor}
 use lib.Dec.{leb, ltb, eqb}
 use lib.ListN.{getD, set}
+use Rattle.kept.specs.Kept.{upTo}
 use Rattle.items.specs.ItemList.{items}
 use Rattle.line.specs.Line.{ETX, topBit, lowSeven, isLineError, within}
 use Rattle.phases.specs.Phases.{oneCharacter, twoCharacters, waiting, text, bccDue, answered}
@@ -35,12 +36,6 @@ waitingOn item time = record { phase = waiting; item = item; count = 0; bcc = 0;
 abbrev pub block : ℕ → ℕ → ℕ → Bool → List ℕ → Link
 block phase count bcc mark kept =
     record { phase = phase; item = 0; count = count; bcc = bcc; mark = mark; kept = kept; time = 0 }
-
--- the kept characters up to the count, and 0 past it
-abbrev pub upTo : ℕ → List ℕ → List ℕ
-upTo count [] = []
-upTo zero (c ∷ cs) = 0 ∷ upTo zero cs
-upTo (suc count) (c ∷ cs) = c ∷ upTo count cs
 
 -- a block is open, or its BCC is due
 abbrev pub inBlock : ℕ → Bool

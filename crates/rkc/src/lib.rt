@@ -5,17 +5,16 @@
 // characters cut at the count.
 ghost use mathlib.Core.Path.{_≡_};
 ghost use mathlib.Core.Bool.{_||_};
-ghost use mathlib.Core.List.{[], _∷_, map};
-ghost use Prim.Native.Nat.{_^_, _≤_, _<_};
-ghost use lib.ListN.{length, set};
+ghost use mathlib.Core.List.{map};
+ghost use Prim.Native.Nat.{_≤_, _<_};
+ghost use lib.ListN.{length};
 ghost use lib.Seq.{sets};
 ghost use Rattle.line.specs.Line.{sent, within, isLineError};
 ghost use Rattle.items.specs.ItemList.{items, found};
 ghost use Rattle.phases.specs.Limits.{Limited};
 ghost use Rattle.phases.specs.Phases.{rest};
 ghost use Rattle.block.specs.Block.{verdict};
-ghost use Rattle.rkc.specs.Bytes.{fromLow, lowFirst};
-ghost use Rattle.rkc.specs.State.{inPhase, holdingOne, holdingTwo, waitingOn, block, upTo, asBlock, used, allCharacters, inLimits, blockInLimits, oneMore, withMore, withEnd};
+ghost use Rattle.rkc.specs.State.{inPhase, holdingOne, holdingTwo, waitingOn, block, asBlock, used, allCharacters, inLimits, blockInLimits, oneMore, withMore, withEnd};
 ghost use Rattle.rkc.specs.Outcome.{silent, sends, quit, dataReply, itemSent, polled, judged, performed, callFault, goodSettings, byteFault, received, elapsed, idleFault, idled};
 ghost use Rattle.rkc.specs.Promise.{Steps, Leads};
 use block::Verdict;
@@ -148,64 +147,6 @@ fn block(phase: u8, count: u8, bcc: u8, mark: bool, kept: [u8; 8]) -> Link
     }
 }
 
-// The number that four bytes make, the low one first.
-fn from_low(a: u8, b: u8, c: u8, d: u8) -> u32
-    ensures { λ r. ⌜ r ≡ fromLow (a ∷ b ∷ c ∷ d ∷ []) ⌝ }
-{
-    a as u32 + 256 * (b as u32 + 256 * (c as u32 + 256 * (d as u32)))
-}
-
-// The number that eight bytes make.
-fn number_of(kept: [u8; 8]) -> u64
-    ensures { λ r. ⌜ r ≡ fromLow kept ⌝ }
-{
-    let low = from_low(kept[0], kept[1], kept[2], kept[3]);
-    let high = from_low(kept[4], kept[5], kept[6], kept[7]);
-    low as u64 + 0x1_0000_0000 * (high as u64)
-}
-
-// The eight bytes of a number, the low one first.
-fn low_first(n: u64) -> [u8; 8]
-    ensures { λ r. ⌜ r ≡ lowFirst 8 n ⌝ }
-{
-    let n1 = n / 256;
-    let n2 = n1 / 256;
-    let n3 = n2 / 256;
-    let n4 = n3 / 256;
-    let n5 = n4 / 256;
-    let n6 = n5 / 256;
-    let n7 = n6 / 256;
-    [
-        (n % 256) as u8,
-        (n1 % 256) as u8,
-        (n2 % 256) as u8,
-        (n3 % 256) as u8,
-        (n4 % 256) as u8,
-        (n5 % 256) as u8,
-        (n6 % 256) as u8,
-        (n7 % 256) as u8,
-    ]
-}
-
-// The first number that so many bytes have no room for.
-fn past_bytes(count: u8) -> u64
-    requires { ⌜ count < 8 ⌝ }
-    ensures { λ r. ⌜ r ≡ 256 ^ count ⌝ }
-{
-    1 << (8 * (count as u64))
-}
-
-// The kept characters up to the count, and 0 past it. All eight make one number, which one remainder cuts at the count:
-// that takes fewer instructions than a test of the count at each place, and it is done for each byte of a text.
-fn kept_up_to(kept: [u8; 8], count: u8) -> [u8; 8]
-    ensures { λ r. ⌜ r ≡ upTo count kept ⌝ }
-{
-    if 8 <= count {
-        return kept;
-    }
-    low_first(number_of(kept) % past_bytes(count))
-}
-
 // Whether no character is 80H or more.
 fn all_characters(chars: &[u8]) -> bool
     ensures { λ r. ⌜ r ≡ allCharacters (now (chars .entry)) ⌝ }
@@ -229,17 +170,6 @@ fn one_more(count: u8) -> u8
     } else {
         MOST_COUNTED
     }
-}
-
-// The kept characters with one more in its place, if that is one of the eight.
-fn keep(kept: [u8; 8], count: u8, c: u8) -> [u8; 8]
-    ensures { λ r. ⌜ r ≡ set kept count c ⌝ }
-{
-    let mut more = kept;
-    if count < 8 {
-        more[count as usize] = c;
-    }
-    more
 }
 
 // Whether a block is marked after one more character, as it was heard.
@@ -268,7 +198,7 @@ impl Link {
             TWO_CHARACTERS => holding_two(kept[0], kept[1]),
             WAITING => waiting_on(self.item, self.time),
             TEXT..=BCC_DUE => {
-                let front = kept_up_to(kept, self.count);
+                let front = kept::up_to(kept, self.count);
                 block(phase, self.count, self.bcc, self.mark, front)
             }
             _ => in_phase(phase),
@@ -286,7 +216,7 @@ impl Link {
         if TOP_BIT <= self.bcc {
             return false;
         }
-        let front = kept_up_to(kept, self.count);
+        let front = kept::up_to(kept, self.count);
         all_characters(&front)
     }
 
@@ -315,8 +245,8 @@ impl Link {
     {
         let low = line::low_seven(c);
         let before = self.kept;
-        let front = kept_up_to(before, self.count);
-        let kept = keep(front, self.count, low);
+        let front = kept::up_to(before, self.count);
+        let kept = kept::keep(front, self.count, low);
         block(
             TEXT,
             one_more(self.count),
@@ -331,7 +261,7 @@ impl Link {
         ensures { λ r. ⌜ r ≡ withEnd (asBlock self) ⌝ }
     {
         let before = self.kept;
-        let kept = kept_up_to(before, self.count);
+        let kept = kept::up_to(before, self.count);
         block(BCC_DUE, self.count, self.bcc ^ ETX, self.mark, kept)
     }
 

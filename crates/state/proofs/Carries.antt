@@ -12,6 +12,7 @@ use lib.ListN.{length, getD, length-set}
 use lib.Seq.{length-slice}
 use Rattle.numbers.specs.Numbers.{none}
 use Rattle.numbers.proofs.Tests.{chosen}
+use Rattle.kept.proofs.Cut.{up-to-length}
 use Rattle.items.specs.declared.Found.{Found}
 use Rattle.items.specs.declared.Found.the-variants.{At, Nothing}
 use Rattle.items.specs.ItemList.{itemAt, found}
@@ -25,7 +26,7 @@ use Rattle.block.specs.Block.{verdict}
 use Rattle.block.specs.declared.Verdict.{Verdict}
 use Rattle.block.specs.declared.Verdict.the-variants.{Store, Refuse}
 use Rattle.rkc.specs.declared.Link.{Link}
-use Rattle.rkc.specs.State.{inPhase, holdingOne, holdingTwo, waitingOn, block, upTo, inBlock, used, withMore, withEnd}
+use Rattle.rkc.specs.State.{inPhase, holdingOne, holdingTwo, waitingOn, block, inBlock, used, withMore, withEnd}
 use Rattle.rkc.specs.Outcome.{Step, Outcome, itemSent, polled, judged, performed, byteFault, received}
 use Rattle.rkc.specs.Outcome.{elapsed, patience, idleFault, idled}
 use Rattle.state.specs.State.{stateBytes, fields, unknownPhase, unpacked, packed}
@@ -57,12 +58,6 @@ waiting-whole item time h = record { eight = refl; small = h }
 
 block-whole : (phase count sum : ℕ) (mark : Bool) (kept : List ℕ) → length kept ≡ 8 → Whole (block phase count sum mark kept)
 block-whole phase count sum mark kept e = record { eight = e; small = omega arith }
-
--- what is past the count keeps its places
-up-to-length : (n : ℕ) (l : List ℕ) → length (upTo n l) ≡ length l
-up-to-length n [] = refl
-up-to-length zero (c ∷ cs) = ap suc (up-to-length zero cs)
-up-to-length (suc n) (c ∷ cs) = ap suc (up-to-length n cs)
 
 module _ (l : Link) (w : Whole l) where
   used-whole : Whole (used l)

@@ -11,7 +11,7 @@ use borrow.Author.Tests.{eq-eqb, ne-eqb}
 use lib.ListN.{length, getD, take, set, length-append, length-set}
 use lib.Seq.{slice, sets, take-at, drop-at, take-all, getD-set-other, take-set-le, take-set-lt, drop-set-lt}
 use Rattle.rkc.specs.declared.Link.{Link}
-use Rattle.rkc.specs.Bytes.{fromLow, lowFirst}
+use Rattle.kept.specs.Bytes.{fromLow, lowFirst}
 use Rattle.rkc.specs.State.{inPhase}
 use Rattle.state.specs.State.{stateBytes, isMarked, markByte, fields, unknownPhase, unpacked, packed, HoldsNothing}
 use Rattle.state.proofs.Parts.{sets-append, sets-all}

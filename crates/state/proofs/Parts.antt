@@ -8,7 +8,7 @@ use native.Mathlib.Nat.{add-zero}
 use native.Mathlib.Omega.{arith}
 use lib.ListN.{length, getD, set, drop-of-length-le}
 use lib.Seq.{slice, slice-empty, slice-cons, sets, sets-eq}
-use Rattle.rkc.proofs.Lists.{listed-from}
+use Rattle.kept.proofs.Lists.{listed-from}
 
 -- n elements from a place on are that part of the list
 pub part-elements : (l : List ℕ) (f n : ℕ) → f + n ≤ length l → listed-from l f n ≡ slice f (f + n) l

@@ -8,7 +8,7 @@ use lib.Dec.{eqb}
 use lib.ListN.{length, getD}
 use lib.Seq.{slice}
 use Rattle.rkc.specs.declared.Link.{Link}
-use Rattle.rkc.specs.Bytes.{fromLow, lowFirst}
+use Rattle.kept.specs.Bytes.{fromLow, lowFirst}
 use Rattle.rkc.specs.State.{inPhase}
 
 abbrev pub stateBytes : ℕ

@@ -4,7 +4,7 @@ ghost use mathlib.Core.List.{[], _∷_};
 ghost use Prim.Native.Nat.{_+_, _%_, _≤_};
 ghost use lib.ListN.{length};
 ghost use lib.Seq.{sets, slice};
-ghost use Rattle.rkc.specs.Bytes.{fromLow, lowFirst};
+ghost use Rattle.kept.specs.Bytes.{fromLow, lowFirst};
 ghost use Rattle.state.specs.State.{stateBytes, isMarked, markByte, unpacked, packed, packedInto};
 use rkc::Link;
 
@@ -27,13 +27,6 @@ fn mark_byte(mark: bool) -> u8
     if mark { 1 } else { 0 }
 }
 
-// The number that four bytes make, the low one first.
-fn from_low(a: u8, b: u8, c: u8, d: u8) -> u32
-    ensures { λ r. ⌜ r ≡ fromLow (a ∷ b ∷ c ∷ d ∷ []) ⌝ }
-{
-    a as u32 + 256 * (b as u32 + 256 * (c as u32 + 256 * (d as u32)))
-}
-
 // The low byte of a number.
 fn low_byte(n: u32) -> u8
     ensures { λ r. ⌜ r ≡ n % 256 ⌝ }
@@ -45,7 +38,7 @@ fn time_of(state: &[u8]) -> u32
     requires { ⌜ length (now state) ≡ stateBytes ⌝ }
     ensures { λ r. ⌜ r ≡ fromLow (slice 8 12 (now (state .entry))) ⌝ }
 {
-    from_low(state[8], state[9], state[10], state[11])
+    kept::from_low(state[8], state[9], state[10], state[11])
 }
 
 fn kept_of(state: &[u8]) -> [u8; 8]

@@ -4,7 +4,7 @@ use mathlib.Core.Path.{ap}
 use native.Mathlib.Omega.{arith}
 use lib.ListN.{length-set}
 use lib.Seq.{sets}
-use Rattle.rkc.proofs.Lists.{elements}
+use Rattle.kept.proofs.Lists.{elements}
 use Rattle.panel.proofs.put_six.Statement.{statement}
 use Rattle.panel.proofs.put_six.Tie as tie
 

@@ -8,7 +8,7 @@ use lib.ListN.{length, getD}
 use Rattle.items.specs.ItemList.{itemAt, identifierOf}
 use Rattle.line.specs.Line.{STX, ETX, bcc}
 use Rattle.rkc.specs.Outcome.{dataReply}
-use Rattle.rkc.proofs.Lists.{listed-from, elements}
+use Rattle.kept.proofs.Lists.{listed-from, elements}
 use Rattle.rkc.proofs.data_reply.Statement.{statement}
 use Rattle.rkc.proofs.data_reply.Tie as tie
 

@@ -4,7 +4,7 @@ use borrow.Author.Needs.{needs}
 use mathlib.Core.Path.{_≡_, ap, _∙_}
 use lib.ListN.{length}
 use lib.Seq.{sets}
-use Rattle.rkc.proofs.Lists.{elements}
+use Rattle.kept.proofs.Lists.{elements}
 use Rattle.state.proofs.put_kept.Statement.{statement}
 use Rattle.state.proofs.put_kept.Tie as tie
 

@@ -2,7 +2,7 @@
 use borrow.Author.Needs.{needs}
 use mathlib.Core.Path.{ap, _∙_}
 use native.Mathlib.Omega.{arith}
-use Rattle.rkc.specs.Bytes.{fromLow}
+use Rattle.kept.specs.Bytes.{fromLow}
 use Rattle.state.proofs.Parts.{part-elements}
 use Rattle.state.proofs.time_of.Statement.{statement}
 use Rattle.state.proofs.time_of.Tie as tie

@@ -12,8 +12,8 @@ returns c = simp (lt-leb _ _ (c .if1 .taken))
 returns-2 : tie.Need-returns-2
 returns-2 c = simp (le-leb _ _ (c .before .before .if1 .left), le-ltb _ _ (c .if2 .taken))
 
-kept-up-to-requires : tie.Need-kept-up-to-requires
-kept-up-to-requires c κs = search needs
+up-to-requires : tie.Need-up-to-requires
+up-to-requires c κs = search needs
 
 slice-aggregate-all-characters : tie.Need-slice-aggregate-all-characters
 slice-aggregate-all-characters c = search needs
@@ -24,7 +24,7 @@ all-characters-requires c κs = search needs
 returns-3 : tie.Need-returns-3
 returns-3 c =
     simp (le-leb _ _ (c .before .before .before .before .before .if1 .left), lt-ltb _ _ (c .before .before .before .if2 .left))
-    (c .all-characters .ensures ∙ ap allCharacters (c .before .before .kept-up-to .ensures))
+    (c .all-characters .ensures ∙ ap allCharacters (c .before .before .up-to .ensures))
 
 pub block-in-limits-spec : {M : Type 1} → statement M
 block-in-limits-spec =
@@ -32,7 +32,7 @@ block-in-limits-spec =
     (tie.spec
     returns
     returns-2
-    kept-up-to-requires
+    up-to-requires
     slice-aggregate-all-characters
     all-characters-requires
     returns-3)

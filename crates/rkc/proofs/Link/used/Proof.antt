@@ -27,8 +27,8 @@ holding-two-requires c κs = search needs
 waiting-on-requires : tie.Need-waiting-on-requires
 waiting-on-requires c κs = search needs
 
-kept-up-to-requires : tie.Need-kept-up-to-requires
-kept-up-to-requires c κs = search needs
+up-to-requires : tie.Need-up-to-requires
+up-to-requires c κs = search needs
 
 block-requires : tie.Need-block-requires
 block-requires c κs = search needs
@@ -54,7 +54,7 @@ returns-4 c =
     let r = c .before .before .before .before .match .rest in
     let p = c .before .before .before .before .before .before .args .self .phase in
     simp (ne-eqb _ _ (r .1), ne-eqb _ _ (r .0 .1), ne-eqb _ _ (r .0 .0 .1), within-in 7 8 p (omega arith) (omega arith))
-    (c .block .ensures ∙ rw (c .before .kept-up-to .ensures))
+    (c .block .ensures ∙ rw (c .before .up-to .ensures))
 
 returns-5 : tie.Need-returns-5
 unfolding used
@@ -74,7 +74,7 @@ used-spec =
     array-read-holding-two-2
     holding-two-requires
     waiting-on-requires
-    kept-up-to-requires
+    up-to-requires
     block-requires
     in-phase-requires
     returns

@@ -8,8 +8,8 @@ use Rattle.rkc.proofs.Link.with_more.Tie as tie
 low-seven-requires : tie.Need-low-seven-requires
 low-seven-requires c κs = search needs
 
-kept-up-to-requires : tie.Need-kept-up-to-requires
-kept-up-to-requires c κs = search needs
+up-to-requires : tie.Need-up-to-requires
+up-to-requires c κs = search needs
 
 keep-requires : tie.Need-keep-requires
 keep-requires c κs = search needs
@@ -27,8 +27,8 @@ returns : tie.Need-returns
 unfolding withMore
 returns c =
     c .block .ensures
-    ∙ rw (c .before .marked .ensures, c .before .before .before .one-more .ensures, c .before .before .before .before .keep .ensures, c .before .before .before .before .before .kept-up-to .ensures, c .before .before .before .before .before .before .before .low-seven .ensures)
+    ∙ rw (c .before .marked .ensures, c .before .before .before .one-more .ensures, c .before .before .before .before .keep .ensures, c .before .before .before .before .before .up-to .ensures, c .before .before .before .before .before .before .before .low-seven .ensures)
 
 pub with-more-spec : {M : Type 1} → statement M
 with-more-spec =
-    tie.close (tie.spec low-seven-requires kept-up-to-requires keep-requires one-more-requires marked-requires block-requires returns)
+    tie.close (tie.spec low-seven-requires up-to-requires keep-requires one-more-requires marked-requires block-requires returns)

@@ -1,13 +1,12 @@
--- `rkc::number_of` meets its contract: the halves are made of the elements of the array. Assumes nothing.
+-- `kept::number_of` meets its contract: the halves are made of the elements of the array. Assumes nothing.
 use borrow.Author.Needs.{needs}
-use mathlib.Core.Path.{_≡_, ap, _∙_}
-use Prim.Native.Nat.{_+_, _*_}
+use mathlib.Core.Path.{_≡_, ap}
 use native.Mathlib.Omega.{arith}
 use lib.ListN.{length}
-use Rattle.rkc.specs.Bytes.{fromLow}
-use Rattle.rkc.proofs.Lists.{listed-from, elements}
-use Rattle.rkc.proofs.number_of.Statement.{statement}
-use Rattle.rkc.proofs.number_of.Tie as tie
+use Rattle.kept.specs.Bytes.{fromLow}
+use Rattle.kept.proofs.Lists.{listed-from, elements}
+use Rattle.kept.proofs.number_of.Statement.{statement}
+use Rattle.kept.proofs.number_of.Tie as tie
 
 array-read-from-low : tie.Need-array-read-from-low
 array-read-from-low c = search needs
@@ -55,8 +54,8 @@ returns : tie.Need-returns
 returns c =
     let kept = c .before .before .args .t1 in
     let eight : length kept ≡ 8 = search needs in
-    let halves : c .before .from-low .result + 0x100000000 * c .from-low2 .result ≡ fromLow (listed-from kept 0 8) = omega arith in
-    halves ∙ ap fromLow (elements kept 8 eight)
+    let whole : fromLow (listed-from kept 0 8) ≡ fromLow kept = ap fromLow (elements kept 8 eight) in
+    omega arith
 
 pub number-of-spec : {M : Type 1} → statement M
 number-of-spec =

@@ -1,13 +1,13 @@
--- `rkc::past_bytes` meets its contract: a shift by eight places is a factor 256. Assumes nothing.
+-- `kept::past_bytes` meets its contract: a shift by eight places is a factor 256. Assumes nothing.
 use borrow.Author.Needs.{needs}
 use mathlib.Core.Path.{_∙_}
 use Prim.Native.Nat.{_*_}
 use native.Mathlib.Nat.{one-mul}
 use native.Mathlib.Omega.{arith}
 use lib.Pow.{shl-exact}
-use Rattle.rkc.proofs.Bytes.{bits-bytes}
-use Rattle.rkc.proofs.past_bytes.Statement.{statement}
-use Rattle.rkc.proofs.past_bytes.Tie as tie
+use Rattle.kept.proofs.Cut.{bits-bytes}
+use Rattle.kept.proofs.past_bytes.Statement.{statement}
+use Rattle.kept.proofs.past_bytes.Tie as tie
 
 mul-result : tie.Need-mul-result
 mul-result c = search needs

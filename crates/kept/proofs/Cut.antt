@@ -1,4 +1,4 @@
--- The kept characters up to the count are the bytes of a remainder of the number that they make.
+-- The cut at the count: what it keeps of a list, and that it is the bytes of a remainder of the number that the list makes.
 -- Assumes nothing.
 use mathlib.Core.Path.{_≡_, refl, ap}
 use mathlib.Core.List.{List, [], _∷_}
@@ -6,19 +6,37 @@ use Prim.Native.Nat.{ℕ, zero, suc, _+_, _*_, _/_, _%_, _^_, _<_, _≤_}
 use native.Mathlib.Nat.{one-le-pow, pow-suc, mod-one}
 use native.Mathlib.Omega.{arith}
 use lib.Arith.{mod-mul}
-use lib.ListN.{length, getD}
+use lib.ListN.{length, getD, take}
 use lib.Pow.{pow-add}
-use Rattle.rkc.specs.Bytes.{fromLow, lowFirst}
-use Rattle.rkc.specs.State.{upTo}
+use Rattle.kept.specs.Bytes.{fromLow, lowFirst}
+use Rattle.kept.specs.Kept.{upTo}
 
--- ---- a count from the list's length on keeps all
+-- ---- what it keeps
 
+-- a count from the list's length on keeps all
 pub up-to-all : (n : ℕ) (l : List ℕ) → length l ≤ n → upTo n l ≡ l
 up-to-all n [] h = refl
 up-to-all zero (c ∷ cs) h = absurd (omega arith)
 up-to-all (suc n) (c ∷ cs) h = ap (λ (r : List ℕ). c ∷ r) (up-to-all n cs (omega arith))
 
--- ---- below it, what is left of the number
+-- what is past the count keeps its places
+pub up-to-length : (n : ℕ) (l : List ℕ) → length (upTo n l) ≡ length l
+up-to-length n [] = refl
+up-to-length zero (c ∷ cs) = ap suc (up-to-length zero cs)
+up-to-length (suc n) (c ∷ cs) = ap suc (up-to-length n cs)
+
+pub up-to-at : (n : ℕ) (l : List ℕ) (i : ℕ) → i < n → getD (upTo n l) i 0 ≡ getD l i 0
+up-to-at n [] i h = refl
+up-to-at zero (c ∷ cs) i h = absurd (omega arith)
+up-to-at (suc n) (c ∷ cs) zero h = refl
+up-to-at (suc n) (c ∷ cs) (suc i) h = up-to-at n cs i (omega arith)
+
+pub up-to-take : (n : ℕ) (l : List ℕ) → take n (upTo n l) ≡ take n l
+up-to-take n [] = refl
+up-to-take zero (c ∷ cs) = refl
+up-to-take (suc n) (c ∷ cs) = ap (λ (r : List ℕ). c ∷ r) (up-to-take n cs)
+
+-- ---- below the list's length, what is left of the number
 
 low-zero : (l : List ℕ) → lowFirst (length l) 0 ≡ upTo zero l
 low-zero [] = refl

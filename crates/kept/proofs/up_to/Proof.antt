@@ -1,4 +1,4 @@
--- `rkc::kept_up_to` meets its contract: from eight on all is kept, below that what is left of the number. Assumes nothing.
+-- `kept::up_to` meets its contract: from eight on all is kept, below that what is left of the number. Assumes nothing.
 use borrow.Author.Needs.{needs}
 use mathlib.Core.Path.{_≡_, sym, _∙_}
 use Prim.Native.Nat.{ℕ, _≤_}
@@ -7,9 +7,9 @@ use native.Mathlib.Omega.{arith}
 use lib.ListN.{length, getD}
 use mir.Syntax.{w8}
 use mir.Val.{Fits}
-use Rattle.rkc.proofs.Bytes.{up-to-all, low-up-to}
-use Rattle.rkc.proofs.kept_up_to.Statement.{statement}
-use Rattle.rkc.proofs.kept_up_to.Tie as tie
+use Rattle.kept.proofs.Cut.{up-to-all, low-up-to}
+use Rattle.kept.proofs.up_to.Statement.{statement}
+use Rattle.kept.proofs.up_to.Tie as tie
 
 returns : tie.Need-returns
 returns c =
@@ -38,5 +38,5 @@ returns-2 c =
     let bytes : (i : ℕ) → Fits w8 (getD kept i 0) = λ i. search needs in
     c .low-first .ensures ∙ rw (c .before .past-bytes .ensures, c .before .before .number-of .ensures) (rw eight at (low-up-to (s .args .count) kept (λ i. bytes i .fits)))
 
-pub kept-up-to-spec : {M : Type 1} → statement M
-kept-up-to-spec = tie.close (tie.spec returns number-of-requires past-bytes-requires rem-low-first low-first-requires returns-2)
+pub up-to-spec : {M : Type 1} → statement M
+up-to-spec = tie.close (tie.spec returns number-of-requires past-bytes-requires rem-low-first low-first-requires returns-2)
