@@ -136,8 +136,8 @@ module _ (l : Link) (structure time : ℕ) where
   passed-other n = simp (ne-eqb (used l .phase) waiting (λ e. n (sym (used-phase l) ∙ e)))
 
   module _ {m : ℕ} (p : l .phase ≡ waiting) (q : m ≡ elapsed time (l .time)) where
-    pub passed-early : m < patience → passed (used l) structure time ≡ silent (used l)
-    passed-early h = rw (used-waiting l p) (simp (← q, lt-leb _ _ h))
+    pub passed-early : leb patience m ≡ false → passed (used l) structure time ≡ silent (used l)
+    passed-early h = rw (used-waiting l p) (simp (← q, h))
 
-    pub passed-late : patience ≤ m → passed (used l) structure time ≡ quit structure timedOut
-    passed-late h = rw (used-waiting l p) (simp (← q, le-leb _ _ h))
+    pub passed-late : leb patience m ≡ true → passed (used l) structure time ≡ quit structure timedOut
+    passed-late h = rw (used-waiting l p) (simp (← q, h))

@@ -35,7 +35,7 @@ use Rattle.rkc.specs.Outcome.{silent, goodSettings, byteFault, elapsed, 
 use Rattle.rkc.specs.Demands.{allKeep, OfByte, OfIdle, stateText, OfAlarms}
 use Rattle.rkc.proofs.Cases.{call-state, call-none, byte-call, byte-none, received-fault, received-fine, idled-fault, idled-fine}
 use Rattle.rkc.proofs.Limits.{used-small, asked-limited, performed-limits, used-in-limits}
-use Rattle.rkc.proofs.Replies.{received-reply, idled-reply}
+use Rattle.rkc.proofs.EachReply.{received-reply, idled-reply}
 
 -- ---- what an act leaves of the table
 

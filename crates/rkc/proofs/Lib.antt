@@ -2,6 +2,6 @@ pub mod Lists
 pub mod Used
 pub mod Cases
 pub mod Limits
-pub mod Replies
+pub mod EachReply
 pub mod Demands
 pub mod Single

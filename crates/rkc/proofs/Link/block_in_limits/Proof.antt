@@ -1,16 +1,13 @@
--- `Link::block_in_limits` meets its contract. Assumes nothing.
+-- `Link::block_in_limits` meets its contract: count and BCC, and then the kept characters. Assumes nothing.
 use borrow.Author.Needs.{needs}
-use borrow.Author.Tests.{le-leb, lt-leb, lt-ltb, le-ltb}
-use mathlib.Core.Path.{_∙_, ap}
-use Rattle.rkc.specs.State.{allCharacters}
+use borrow.Author.Tests.{le-leb, lt-leb}
+use mathlib.Core.Logic.{⊎-elim}
+use mathlib.Core.Path.{_≡_, sym, ap, _∙_}
+use mathlib.Core.Bool.{_&&_, and-assoc}
+use lib.Dec.{leb}
+use Rattle.rkc.specs.State.{isCharacter, allCharacters, mostCounted}
 use Rattle.rkc.proofs.Link.block_in_limits.Statement.{statement}
 use Rattle.rkc.proofs.Link.block_in_limits.Tie as tie
-
-returns : tie.Need-returns
-returns c = simp (lt-leb _ _ (c .if1 .taken))
-
-returns-2 : tie.Need-returns-2
-returns-2 c = simp (le-leb _ _ (c .before .before .if1 .left), le-ltb _ _ (c .if2 .taken))
 
 up-to-requires : tie.Need-up-to-requires
 up-to-requires c κs = search needs
@@ -21,18 +18,28 @@ slice-aggregate-all-characters c = search needs
 all-characters-requires : tie.Need-all-characters-requires
 all-characters-requires c κs = search needs
 
-returns-3 : tie.Need-returns-3
-returns-3 c =
-    simp (le-leb _ _ (c .before .before .before .before .before .if1 .left), lt-ltb _ _ (c .before .before .before .if2 .left))
-    (c .all-characters .ensures ∙ ap allCharacters (c .before .before .up-to .ensures))
+count-and-bcc : (c : tie.Joined1) →
+    let l = c .before .before .before .before .args .self in
+    c .if1 .if2 ≡ (leb (l .count) mostCounted && isCharacter (l .bcc))
+count-and-bcc c =
+    ⊎-elim (λ w. w .2 ∙ simp (le-leb _ _ (w .0 .taken))) (λ w. w .1 ∙ simp (lt-leb _ _ (w .0 .left))) (c .if1 .came)
+
+returns : tie.Need-returns
+returns c =
+    let held = sym (count-and-bcc (c .before .before .before)) ∙ c .before .before .if2 .taken in
+    rw (← and-assoc, held) (c .all-characters .ensures ∙ ap allCharacters (c .before .before .before .before .before .up-to .ensures))
+
+returns-2 : tie.Need-returns-2
+returns-2 c =
+    let failed = sym (count-and-bcc (c .before)) ∙ c .if2 .left in
+    rw (← and-assoc, failed) (c .if2 .left)
 
 pub block-in-limits-spec : {M : Type 1} → statement M
 block-in-limits-spec =
     tie.close
     (tie.spec
-    returns
-    returns-2
     up-to-requires
     slice-aggregate-all-characters
     all-characters-requires
-    returns-3)
+    returns
+    returns-2)

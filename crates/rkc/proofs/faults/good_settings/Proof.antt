@@ -1,7 +1,7 @@
--- `rkc::good_settings` meets its contract. Assumes nothing.
+-- `faults::good_settings` meets its contract. Assumes nothing.
 use borrow.Author.Tests.{le-leb, lt-leb}
-use Rattle.rkc.proofs.good_settings.Statement.{statement}
-use Rattle.rkc.proofs.good_settings.Tie as tie
+use Rattle.rkc.proofs.faults.good_settings.Statement.{statement}
+use Rattle.rkc.proofs.faults.good_settings.Tie as tie
 
 returns : tie.Need-returns
 returns c = simp (le-leb _ _ (c .if1 .taken))

@@ -1,8 +1,8 @@
--- `rkc::one_more` meets its contract. Assumes nothing.
+-- `states::one_more` meets its contract. Assumes nothing.
 use borrow.Author.Needs.{needs}
 use borrow.Author.Tests.{lt-ltb, le-ltb}
-use Rattle.rkc.proofs.one_more.Statement.{statement}
-use Rattle.rkc.proofs.one_more.Tie as tie
+use Rattle.rkc.proofs.states.one_more.Statement.{statement}
+use Rattle.rkc.proofs.states.one_more.Tie as tie
 
 add-result : tie.Need-add-result
 add-result c = search needs

@@ -1,4 +1,4 @@
--- `rkc::all_characters` meets its contract. The loop's invariant: the characters that are left decide. Assumes nothing.
+-- `faults::all_characters` meets its contract. The loop's invariant: the characters that are left decide. Assumes nothing.
 use borrow.Author.Needs.{needs}
 use borrow.Author.Tests.{lt-ltb, le-ltb}
 use mathlib.Core.Path.{_≡_, refl, sym, ap, _∙_}
@@ -7,8 +7,8 @@ use Prim.Native.Nat.{_+_, _-_, _≤_}
 use lib.ListN.{getD, length, drop, drop-of-length-le}
 use Rattle.rkc.specs.State.{isCharacter, allCharacters}
 use Rattle.rkc.proofs.Lists.{characters-turn}
-use Rattle.rkc.proofs.all_characters.Statement.{statement}
-use Rattle.rkc.proofs.all_characters.Tie as tie
+use Rattle.rkc.proofs.faults.all_characters.Statement.{statement}
+use Rattle.rkc.proofs.faults.all_characters.Tie as tie
 
 abbrev Inv-loop : tie.InvT-loop
 Inv-loop chars i₀ i = (i ≤ length chars) × (allCharacters (drop i chars) ≡ allCharacters chars)

@@ -1,8 +1,8 @@
--- `rkc::quit` meets its contract: EOT, sent from rest. Assumes nothing.
+-- `replies::quit` meets its contract: EOT, sent from rest. Assumes nothing.
 use borrow.Author.Needs.{needs}
 use mathlib.Core.Path.{_∙_}
-use Rattle.rkc.proofs.quit.Statement.{statement}
-use Rattle.rkc.proofs.quit.Tie as tie
+use Rattle.rkc.proofs.replies.quit.Statement.{statement}
+use Rattle.rkc.proofs.replies.quit.Tie as tie
 
 in-phase-requires : tie.Need-in-phase-requires
 in-phase-requires c κs = search needs

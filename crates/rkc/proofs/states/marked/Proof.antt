@@ -1,6 +1,6 @@
--- `rkc::marked` meets its contract. Assumes nothing.
-use Rattle.rkc.proofs.marked.Statement.{statement}
-use Rattle.rkc.proofs.marked.Tie as tie
+-- `states::marked` meets its contract. Assumes nothing.
+use Rattle.rkc.proofs.states.marked.Statement.{statement}
+use Rattle.rkc.proofs.states.marked.Tie as tie
 
 returns : tie.Need-returns
 returns c = rw (c .if1 .taken)

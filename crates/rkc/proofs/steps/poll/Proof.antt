@@ -1,11 +1,11 @@
--- `rkc::poll` meets its contract: what was found is sent, or EOT. Assumes nothing.
+-- `steps::poll` meets its contract: what was found is sent, or EOT. Assumes nothing.
 use borrow.Author.Needs.{needs}
 use mathlib.Core.Path.{sym, ap, _∙_}
 use Rattle.items.proofs.Lookup.{found-place}
 use Rattle.rkc.specs.Outcome.{polled}
 use Rattle.rkc.proofs.Cases.{steps-by}
-use Rattle.rkc.proofs.poll.Statement.{statement}
-use Rattle.rkc.proofs.poll.Tie as tie
+use Rattle.rkc.proofs.steps.poll.Statement.{statement}
+use Rattle.rkc.proofs.steps.poll.Tie as tie
 
 find-requires : tie.Need-find-requires
 find-requires c κs = search needs

@@ -1,4 +1,4 @@
--- `rkc::send_item` meets its contract: the number text fits six characters, or EOT is sent. Assumes nothing.
+-- `steps::send_item` meets its contract: the number text fits six characters, or EOT is sent. Assumes nothing.
 use borrow.Author.Needs.{needs}
 use mathlib.Core.Path.{_≡_, _∙_}
 use lib.ListN.{length-map}
@@ -7,8 +7,8 @@ use Rattle.items.specs.ItemList.{itemAt}
 use Rattle.table.specs.Table.{answered}
 use Rattle.text.specs.Writing.{written}
 use Rattle.rkc.proofs.Cases.{steps-by, item-fits, item-too-long}
-use Rattle.rkc.proofs.send_item.Statement.{statement}
-use Rattle.rkc.proofs.send_item.Tie as tie
+use Rattle.rkc.proofs.steps.send_item.Statement.{statement}
+use Rattle.rkc.proofs.steps.send_item.Tie as tie
 
 answer-requires : tie.Need-answer-requires
 answer-requires c κs = search needs

@@ -1,4 +1,4 @@
--- `rkc::data_reply` meets its contract: the six characters by their elements, about them the identifier, ETX and the BCC.
+-- `replies::data_reply` meets its contract: the six characters by their elements, about them the identifier, ETX and the BCC.
 -- Assumes nothing.
 use borrow.Author.Needs.{needs}
 use mathlib.Core.Path.{_≡_, ap}
@@ -9,8 +9,8 @@ use Rattle.items.specs.ItemList.{itemAt, identifierOf}
 use Rattle.line.specs.Line.{STX, ETX, bcc}
 use Rattle.rkc.specs.Outcome.{dataReply}
 use Rattle.kept.proofs.Lists.{listed-from, elements}
-use Rattle.rkc.proofs.data_reply.Statement.{statement}
-use Rattle.rkc.proofs.data_reply.Tie as tie
+use Rattle.rkc.proofs.replies.data_reply.Statement.{statement}
+use Rattle.rkc.proofs.replies.data_reply.Tie as tie
 
 identifier-requires : tie.Need-identifier-requires
 identifier-requires c κs = search needs

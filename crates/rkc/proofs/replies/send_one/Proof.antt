@@ -1,8 +1,8 @@
--- `rkc::send_one` meets its contract. Assumes nothing.
+-- `replies::send_one` meets its contract. Assumes nothing.
 use borrow.Author.Needs.{needs}
 use mathlib.Core.Path.{refl}
-use Rattle.rkc.proofs.send_one.Statement.{statement}
-use Rattle.rkc.proofs.send_one.Tie as tie
+use Rattle.rkc.proofs.replies.send_one.Statement.{statement}
+use Rattle.rkc.proofs.replies.send_one.Tie as tie
 
 sent-requires : tie.Need-sent-requires
 sent-requires c κs = search needs

@@ -1,4 +1,4 @@
--- `rkc::put` meets its contract. The loop's invariant: sending what is left gives the buffer that sending all gives.
+-- `replies::put` meets its contract. The loop's invariant: sending what is left gives the buffer that sending all gives.
 -- Assumes nothing.
 use borrow.Author.Needs.{needs}
 use mathlib.Core.Path.{_≡_, refl, sym, _∙_}
@@ -9,8 +9,8 @@ use lib.ListN.{length, drop, length-set}
 use lib.Seq.{sets}
 use Rattle.line.specs.Line.{sent}
 use Rattle.rkc.proofs.Lists.{sent-turn, sent-end}
-use Rattle.rkc.proofs.put.Statement.{statement}
-use Rattle.rkc.proofs.put.Tie as tie
+use Rattle.rkc.proofs.replies.put.Statement.{statement}
+use Rattle.rkc.proofs.replies.put.Tie as tie
 
 abbrev Inv-loop : tie.InvT-loop
 Inv-loop reply₀ structure chars i₀ reply i =

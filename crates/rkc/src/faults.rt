@@ -1,0 +1,109 @@
+// The caller's faults: what a state's limits are, and the order in which a call looks at what it is handed.
+ghost use mathlib.Core.Path.{_≡_};
+ghost use Rattle.items.specs.ItemList.{items};
+ghost use Rattle.line.specs.Line.{within};
+ghost use Rattle.rkc.specs.State.{allCharacters, blockInLimits, inLimits};
+ghost use Rattle.rkc.specs.Outcome.{callFault, goodSettings, byteFault, idleFault};
+use crate::Link;
+use crate::states::MOST_COUNTED;
+use line::LAST_STRUCTURE;
+use line::TOP_BIT;
+use numbers::BAD_SETTING;
+use numbers::LAST_ADDRESS;
+use numbers::LEAST_BUFFER;
+use numbers::SHORT_BUFFER;
+use phases::ANSWERED;
+use phases::BCC_DUE;
+use phases::ONE_CHARACTER;
+use phases::TEXT;
+use phases::TWO_CHARACTERS;
+use phases::WAITING;
+
+// The number of a state outside its limits.
+const BAD_STATE: u8 = 5;
+
+// Whether no character is 80H or more.
+fn all_characters(chars: &[u8]) -> bool
+    ensures { λ r. ⌜ r ≡ allCharacters (now (chars .entry)) ⌝ }
+{
+    let mut i = 0;
+    while i < chars.len() {
+        if TOP_BIT <= chars[i] {
+            return false;
+        }
+        i += 1;
+    }
+    true
+}
+
+// Whether an item is one of the list.
+fn listed(item: u8) -> bool
+    ensures { λ r. ⌜ r ≡ within 1 items item ⌝ }
+{
+    1 <= item && item as usize <= items::ITEMS
+}
+
+// Whether address and structure are ones that a line has.
+fn good_settings(address: u8, structure: u8) -> bool
+    ensures { λ r. ⌜ r ≡ goodSettings address structure ⌝ }
+{
+    address <= LAST_ADDRESS && structure <= LAST_STRUCTURE
+}
+
+impl Link {
+    // Whether a block's fields are within their limits.
+    fn block_in_limits(self) -> bool
+        ensures { λ r. ⌜ r ≡ blockInLimits self ⌝ }
+    {
+        let kept = self.kept;
+        let front = kept::up_to(kept, self.count);
+        self.count <= MOST_COUNTED && self.bcc < TOP_BIT && all_characters(&front)
+    }
+
+    // Whether the fields that the phase uses are within their limits.
+    fn in_limits(self) -> bool
+        ensures { λ r. ⌜ r ≡ inLimits self ⌝ }
+    {
+        let phase = self.phase;
+        let kept = self.kept;
+        match phase {
+            ONE_CHARACTER => kept[0] < TOP_BIT,
+            TWO_CHARACTERS => kept[0] < TOP_BIT && kept[1] < TOP_BIT,
+            WAITING => listed(self.item),
+            TEXT..=BCC_DUE => self.block_in_limits(),
+            _ => phase <= ANSWERED,
+        }
+    }
+
+    // The faults that every call looks at: buffer, settings, state; 0 for none.
+    fn fault(self, buffer: usize, settings: bool) -> u8
+        ensures { λ r. ⌜ r ≡ callFault self buffer settings ⌝ }
+    {
+        if buffer < LEAST_BUFFER {
+            return SHORT_BUFFER;
+        }
+        if settings {
+            if self.in_limits() { 0 } else { BAD_STATE }
+        } else {
+            BAD_SETTING
+        }
+    }
+
+    // The caller's fault in a byte call: the table is looked at first.
+    pub(crate) fn byte_fault(self, table: &[i32], buffer: usize, address: u8, structure: u8) -> u8
+        ensures { λ r. ⌜ r ≡ byteFault self (now (table .entry)) buffer address structure ⌝ }
+    {
+        let number = table::check(table);
+        if number != 0 {
+            return number;
+        }
+        self.fault(buffer, good_settings(address, structure))
+    }
+
+    // The caller's fault in an idle call, which has no table and no address.
+    pub(crate) fn idle_fault(self, buffer: usize, structure: u8) -> u8
+        ensures { λ r. ⌜ r ≡ idleFault self buffer structure ⌝ }
+    {
+        self.fault(buffer, structure <= LAST_STRUCTURE)
+    }
+}
