@@ -3,10 +3,11 @@
 use mathlib.Core.Path.{_≡_, refl, sym}
 use mathlib.Core.Bool.{Bool, true, false, cond}
 use mathlib.Core.List.{List, [], _∷_}
-use Prim.Native.Nat.{ℕ, _<_}
+use Prim.Native.Nat.{ℕ, zero, suc, _<_}
 use native.Mathlib.Omega.{arith}
 use borrow.Author.Tests.{eqb-true, eqb-false, eq-eqb, ne-eqb}
 use lib.Dec.{eqb}
+use lib.ListN.{getD}
 use Rattle.numbers.specs.Numbers.{none, unless, firstMet, unlessMet}
 use Rattle.numbers.proofs.Tests.{chosen}
 
@@ -46,6 +47,12 @@ module _ (n : ℕ) (ns : List ℕ) where
 
   pub each : (P : ℕ → Type 0) → P n → P (firstMet ns) → P (firstMet (n ∷ ns))
   each = either-first n (firstMet ns)
+
+-- where none is met, none is at any place
+pub none-at : (ns : List ℕ) (k : ℕ) → firstMet ns ≡ none → getD ns k none ≡ none
+none-at [] k e = refl
+none-at (n ∷ ns) zero e = none-met n ns e .0
+none-at (n ∷ ns) (suc k) e = none-at ns k (none-met n ns e .1)
 
 -- the last number that is tried
 pub last-met : (n : ℕ) → firstMet (n ∷ []) ≡ n
