@@ -1,37 +1,44 @@
 -- What the definitions of the steps give in each case, for the proofs of the functions that take that way.
 -- Assumes nothing.
-use mathlib.Core.Path.{_≡_, refl, sym, ap, subst⁻¹, _∙_}
-use mathlib.Core.Bool.{Bool, true, false, cond}
+use mathlib.Core.Path.{_≡_, refl, sym, ap, subst, subst⁻¹, _∙_}
+use mathlib.Core.Bool.{Bool, true, false}
 use mathlib.Core.List.{List, [], _∷_, map}
 use Prim.Native.Nat.{ℕ, _+_, _<_, _≤_}
 use native.Mathlib.Omega.{arith}
-use borrow.Author.Tests.{eq-eqb, ne-eqb, eqb-true, eqb-false, leb-true, le-leb, lt-leb}
+use borrow.Author.Tests.{eq-eqb, ne-eqb, eqb-true, leb-true, le-leb, lt-leb}
 use lib.Dec.{eqb, leb}
 use lib.IntN.{ℤ}
+use lib.ListN.{length}
 use Rattle.numbers.specs.Numbers.{none, unless, firstMet, shortBuffer, leastBuffer, badSetting}
 use Rattle.numbers.proofs.Tests.{chosen}
+use Rattle.numbers.proofs.Order.{this-met, not-met, none-at, test-held}
 use Rattle.items.specs.ItemList.{itemAt}
-use Rattle.table.specs.Table.{tableFault, answered}
-use Rattle.line.specs.Line.{sent, heard}
+use Rattle.table.specs.Table.{tableFault, answered, stored}
+use Rattle.line.specs.Line.{ACK, NAK, sent, heard}
+use Rattle.phases.specs.Phases as phases
 use Rattle.phases.specs.Phases.{waiting}
 use Rattle.phases.specs.declared.Act.{Act}
 use Rattle.text.specs.Writing.{written}
 use Rattle.text.specs.declared.Written.{Written}
+use Rattle.block.specs.Block.{Judges}
+use Rattle.block.specs.declared.Verdict.{Verdict}
+use Rattle.block.specs.declared.Verdict.the-variants.{Store, Refuse}
+use Rattle.block.proofs.Laws.{stores, refuses}
 use Rattle.rkc.specs.declared.Link.{Link}
 use Rattle.rkc.specs.declared.Stepped.{Stepped}
-use Rattle.rkc.specs.State.{waitingOn, asBlock, used, inLimits}
-use Rattle.rkc.specs.Outcome.{Step, Outcome, silent, quit, noRoom, dataReply, itemSent, keeping, performed, asked, handedBack, received}
-use Rattle.rkc.specs.Outcome.{badState, callFault, goodSettings, byteFault}
-use Rattle.rkc.specs.Outcome.{elapsed, patience, timedOut, idleFault, passed, idled}
-use Rattle.rkc.specs.Promise.{Steps, Leads}
+use Rattle.rkc.specs.State.{inPhase, waitingOn, asBlock, used, inLimits}
+use Rattle.rkc.specs.Outcome.{Step, Outcome, keeping, silent, sends, quit, noRoom, dataReply, itemSent, judged, performed, asked, handedBack}
+use Rattle.rkc.specs.Outcome.{badState, stepFault, ByteCall, goodSettings, byteFault, received}
+use Rattle.rkc.specs.Outcome.{IdleCall, elapsed, patience, timedOut, idleFault, passed, idled}
+use Rattle.rkc.specs.Promise.{Steps, Does}
 use Rattle.rkc.proofs.Used.{used-phase, used-waiting, asked-used, performed-used}
 
 -- an equal step, an equal outcome
 pub steps-by : {s s′ : Step} {r : Stepped} {b a : List ℕ} → s ≡ s′ → Steps s′ r b a → Steps s r b a
 steps-by {r = r} {b = b} {a = a} e h = subst⁻¹ (λ (s : Step). Steps s r b a) e h
 
-pub leads-by : {o o′ : Outcome} {r : Stepped} {b a : List ℕ} {t : List ℤ} → o ≡ o′ → Leads o′ r b a t → Leads o r b a t
-leads-by {r = r} {b = b} {a = a} {t = t} e h = subst⁻¹ (λ (o : Outcome). Leads o r b a t) e h
+pub does-by : {o o′ : Outcome} {r : Stepped} {b a : List ℕ} {t : List ℤ} → o ≡ o′ → Does o′ r b a t → Does o r b a t
+does-by {r = r} {b = b} {a = a} {t = t} e h = subst⁻¹ (λ (o : Outcome). Does o r b a t) e h
 
 -- what is performed for an equal act
 pub done-by : (l : Link) {x y : Act} (t : List ℤ) (structure time : ℕ) → x ≡ y → performed l t structure time x ≡ performed l t structure time y
@@ -50,84 +57,90 @@ module _ (structure time : ℕ) (t : List ℤ) (i : ℕ) (w : Written) (e : w �
   unfolding itemSent
   item-too-long n = rw (← e) (simp (ne-eqb _ _ n))
 
+-- ---- a verdict on a block: a value to store, or a number
+
+module _ (structure : ℕ) (t : List ℤ) (l : Link) (c : ℕ) {v : Verdict} (j : Judges (l .mark) (l .bcc) (l .count) (l .kept) c v) where
+  pub judged-stored : {i : ℕ} {w : ℤ} → v ≡ Store i w
+      → judged structure t l c ≡ record { step = sends structure ACK (inPhase phases.answered) none; table = stored t i w }
+  judged-stored {i} {w} e =
+      let s = stores (l .mark) (l .bcc) (l .count) (l .kept) c i w (subst (Judges (l .mark) (l .bcc) (l .count) (l .kept) c) e j) in
+      rw (s .1, s .2) (simp (eq-eqb _ _ (s .0)))
+
+  pub judged-refused : {n : ℕ} → v ≡ Refuse n → judged structure t l c ≡ keeping t (sends structure NAK (inPhase phases.answered) n)
+  judged-refused {n} e =
+      let s = refuses (l .mark) (l .bcc) (l .count) (l .kept) c n (subst (Judges (l .mark) (l .bcc) (l .count) (l .kept) c) e j) in
+      rw (s .0) (simp (ne-eqb n none (s .1)))
+
 -- ---- the caller's faults
 
 -- the last number that is tried
 last-met : (n : ℕ) → firstMet (n ∷ []) ≡ n
 last-met n = chosen (λ (m : ℕ). m ≡ n) (eqb n none) (λ e. sym (eqb-true n none e)) (λ _. refl)
 
-pub call-short : (l : Link) (buffer : ℕ) (settings : Bool) → buffer < leastBuffer → callFault l buffer settings ≡ shortBuffer
-unfolding callFault
-call-short l buffer settings h = simp (lt-leb leastBuffer buffer h)
+module _ (l : Link) (room : ℕ) (settings : Bool) where
+  pub step-short : room < leastBuffer → stepFault l room settings ≡ shortBuffer
+  unfolding stepFault
+  step-short h = simp (lt-leb leastBuffer room h)
 
-pub call-setting : (l : Link) (buffer : ℕ) (settings : Bool) → leastBuffer ≤ buffer → settings ≡ false → callFault l buffer settings ≡ badSetting
-unfolding callFault
-call-setting l buffer settings h s = simp (le-leb leastBuffer buffer h, s)
+  pub step-setting : leastBuffer ≤ room → settings ≡ false → stepFault l room settings ≡ badSetting
+  unfolding stepFault
+  step-setting h s = simp (le-leb leastBuffer room h, s)
 
-pub call-state : (l : Link) (buffer : ℕ) (settings : Bool) {b : Bool} → leastBuffer ≤ buffer → settings ≡ true → b ≡ inLimits l
-    → callFault l buffer settings ≡ unless b badState
-unfolding callFault
-call-state l buffer settings {b} h s e = simp (le-leb leastBuffer buffer h, s, ← e) (last-met (unless b badState))
+  pub step-state : {b : Bool} → leastBuffer ≤ room → settings ≡ true → b ≡ inLimits l → stepFault l room settings ≡ unless b badState
+  unfolding stepFault
+  step-state {b} h s e = simp (le-leb leastBuffer room h, s, ← e) (last-met (unless b badState))
 
-module _ (l : Link) (t : List ℤ) (buffer address structure : ℕ) {f : ℕ} (e : f ≡ tableFault t) where
-  pub byte-table : (f ≡ none → ⊥) → byteFault l t buffer address structure ≡ f
-  unfolding byteFault
-  byte-table n = rw (← e) (simp (ne-eqb f none n))
+  -- where none is met
+  pub step-none : stepFault l room settings ≡ none → (leastBuffer ≤ room) × (settings ≡ true) × (inLimits l ≡ true)
+  unfolding stepFault
+  step-none e =
+      let ns = unless (leb leastBuffer room) shortBuffer ∷ unless settings badSetting ∷ unless (inLimits l) badState ∷ [] in
+      (leb-true _ _ (test-held _ shortBuffer (omega arith) (none-at ns 0 e)), test-held _ badSetting (omega arith) (none-at ns 1 e), test-held _ badState (omega arith) (none-at ns 2 e))
 
-  pub byte-call : f ≡ none → byteFault l t buffer address structure ≡ callFault l buffer (goodSettings address structure)
-  unfolding byteFault
-  byte-call z = rw (← e) (simp (eq-eqb f none z)) ∙ last-met (callFault l buffer (goodSettings address structure))
+module _ (t : List ℤ) (step : ℕ) {f : ℕ} (e : f ≡ tableFault t) where
+  pub table-first : (f ≡ none → ⊥) → firstMet (tableFault t ∷ step ∷ []) ≡ f
+  table-first n = rw (← e) (this-met f (step ∷ []) n)
 
--- where no fault is met
-pub call-none : (l : Link) (buffer : ℕ) (settings : Bool) → callFault l buffer settings ≡ none
-    → (leastBuffer ≤ buffer) × (settings ≡ true) × (inLimits l ≡ true)
-unfolding callFault
-call-none l buffer settings e = by (leb leastBuffer buffer) settings (inLimits l) refl e
-  where
-    by : (a b c : Bool) → leb leastBuffer buffer ≡ a → firstMet (unless a shortBuffer ∷ unless b badSetting ∷ unless c badState ∷ []) ≡ none
-        → (leastBuffer ≤ buffer) × (b ≡ true) × (c ≡ true)
-    by true true true p q = (leb-true _ _ p, refl, refl)
-    by true true false p q = absurd (let z : _≡_ {A = ℕ} 5 0 = q in omega arith)
-    by true false c p q = absurd (let z : _≡_ {A = ℕ} 4 0 = q in omega arith)
-    by false b c p q = absurd (let z : _≡_ {A = ℕ} 3 0 = q in omega arith)
+  pub step-next : f ≡ none → firstMet (tableFault t ∷ step ∷ []) ≡ step
+  step-next z = rw (← e) (not-met f (step ∷ []) z ∙ last-met step)
 
-pub byte-none : (l : Link) (t : List ℤ) (buffer address structure : ℕ) → byteFault l t buffer address structure ≡ none
-    → (tableFault t ≡ none) × (callFault l buffer (goodSettings address structure) ≡ none)
+pub byte-none : (call : ByteCall) → byteFault call ≡ none
+    → (tableFault (call .table) ≡ none)
+    × (stepFault (call .link) (length (call .buffer)) (goodSettings (call .address) (call .structure)) ≡ none)
 unfolding byteFault
-byte-none l t buffer address structure e = by (eqb (tableFault t) none) refl e
-  where
-    by : (b : Bool) → eqb (tableFault t) none ≡ b
-        → cond b (firstMet (callFault l buffer (goodSettings address structure) ∷ [])) (tableFault t) ≡ none
-        → (tableFault t ≡ none) × (callFault l buffer (goodSettings address structure) ≡ none)
-    by true p q = (eqb-true _ _ p, sym (last-met (callFault l buffer (goodSettings address structure))) ∙ q)
-    by false p q = absurd (eqb-false _ _ p q)
+byte-none call e =
+    let ns = tableFault (call .table) ∷ stepFault (call .link) (length (call .buffer)) (goodSettings (call .address) (call .structure)) ∷ [] in
+    (none-at ns 0 e, none-at ns 1 e)
 
 -- ---- a received byte: a fault, or what was asked for
 
-module _ (l : Link) (t : List ℤ) (buffer address structure time byte : ℕ) {f : ℕ} (e : f ≡ byteFault l t buffer address structure) where
-  pub received-fault : (f ≡ none → ⊥) → received l t buffer address structure time byte ≡ keeping t (handedBack l f)
+module _ (call : ByteCall) {f : ℕ} (e : f ≡ byteFault call) where
+  pub received-fault : (f ≡ none → ⊥) → received call ≡ keeping (call .table) (handedBack (call .link) f)
   unfolding received
   received-fault n = rw (← e) (simp (ne-eqb f none n))
 
-  pub received-fine : f ≡ none → received l t buffer address structure time byte ≡ performed (used l) t structure time (asked (used l) address (heard structure byte))
+  pub received-fine : f ≡ none
+      → received call
+      ≡ performed (used (call .link)) (call .table) (call .structure) (call .time) (asked (used (call .link)) (call .address) (heard (call .structure) (call .byte)))
   unfolding received
   received-fine z = rw (← e) (simp (eq-eqb f none z))
 
   -- the state itself is asked, and as a block it is what an act is performed in
-  pub received-act : {c : ℕ} {x : Act} → f ≡ none → c ≡ heard structure byte → x ≡ asked l address c
-      → received l t buffer address structure time byte ≡ performed (asBlock l) t structure time x
+  pub received-act : {c : ℕ} {x : Act} → f ≡ none → c ≡ heard (call .structure) (call .byte) → x ≡ asked (call .link) (call .address) c
+      → received call ≡ performed (asBlock (call .link)) (call .table) (call .structure) (call .time) x
   received-act z ec ex =
+      let c = heard (call .structure) (call .byte) in
       received-fine z
-      ∙ rw (ex, ec, asked-used l address (heard structure byte)) (performed-used l t structure time address (heard structure byte))
+      ∙ rw (ex, ec, asked-used (call .link) (call .address) c) (performed-used (call .link) (call .table) (call .structure) (call .time) (call .address) c)
 
 -- ---- an idle call: a fault, another phase, too early, three seconds
 
-module _ (l : Link) (buffer structure time : ℕ) {f : ℕ} (e : f ≡ idleFault l buffer structure) where
-  pub idled-fault : (f ≡ none → ⊥) → idled l buffer structure time ≡ handedBack l f
+module _ (call : IdleCall) {f : ℕ} (e : f ≡ idleFault call) where
+  pub idled-fault : (f ≡ none → ⊥) → idled call ≡ handedBack (call .link) f
   unfolding idled
   idled-fault n = rw (← e) (simp (ne-eqb f none n))
 
-  pub idled-fine : f ≡ none → idled l buffer structure time ≡ passed (used l) structure time
+  pub idled-fine : f ≡ none → idled call ≡ passed (used (call .link)) (call .structure) (call .time)
   unfolding idled
   idled-fine z = rw (← e) (simp (eq-eqb f none z))
 

@@ -1,58 +1,52 @@
--- Demand 1 for the RKC line, and that a link runs for ever and answers in the line's structure: theorems about `received` and
--- `idled` for whatever is handed in. Their claims stand in specs/Demands.antt. And an item of a good table is always sent.
+-- Demand 1 for the RKC line, and that a link runs for ever and answers in the line's structure: theorems about every call. Their
+-- claims stand in specs/Demands.antt.
 -- Assumes nothing.
-use mathlib.Core.Path.{_≡_, refl, sym, _∙_}
-use mathlib.Core.Bool.{Bool, true, false, _&&_}
+use mathlib.Core.Path.{_≡_, refl, sym, subst, _∙_}
+use mathlib.Core.Logic.{_⊎_, inl}
+use mathlib.Core.Bool.{Bool, true, false, not, _&&_}
 use mathlib.Core.List.{List, [], _∷_, map}
-use Prim.Native.Nat.{ℕ, _<_, _≤_}
-use borrow.Author.Tests.{eq-eqb, eqb-true, eqb-false}
+use Prim.Native.Nat.{ℕ, _≤_}
+use borrow.Author.Tests.{eq-eqb, eqb-true, eqb-false, not-true}
+use lib.Count.{ones}
 use lib.Dec.{eqb, leb}
-use lib.IntN.{ℤ, pos}
+use lib.IntN.{ℤ}
+use lib.ListN.{length}
+use lib.Seq.{length-sets}
 use lib.Signed.{leZ}
 use Rattle.numbers.specs.Numbers.{none, leastBuffer}
-use Rattle.numbers.proofs.Tests.{both, chosen}
-use Rattle.items.specs.ItemList.{Item, items, itemAt, inRange}
+use Rattle.numbers.proofs.Tests.{contrary, chosen}
+use Rattle.items.specs.ItemList.{itemAt, found, inRange}
 use Rattle.table.specs.Table as table
-use Rattle.table.specs.Table.{tableFault, goodTable, entry}
-use Rattle.items.proofs.Lists.{passes, passes-at}
-use Rattle.table.proofs.Laws.{good-entry, good-stored, stored-read-only, answered-AA, answered-AB}
-use Rattle.line.specs.Line.{sent, heard}
+use Rattle.table.specs.Table.{tableFault, goodTable, startValues, entry, stored}
+use Rattle.table.proofs.Laws.{good-stored, stored-in-range, stored-read-only, answered-AA, answered-AB}
+use Rattle.line.specs.Line.{within, keeps, sent, heard, lastStructure}
 use Rattle.line.proofs.Parity.{sent-keeps}
-use Rattle.text.specs.Writing.{fits, text, accepted, written}
-use Rattle.text.proofs.Limits.{between-fits}
-use Rattle.text.proofs.Texts.{fitting}
+use Rattle.text.specs.Reading.{readNumber, readValue}
+use Rattle.text.specs.Writing.{fits, text, writeNumber, accepted, written}
 use Rattle.phases.specs.Phases.{waiting}
+use Rattle.phases.specs.Decision.{decided}
 use Rattle.phases.specs.declared.Act.{Act}
 use Rattle.phases.specs.declared.Act.the-variants.{Go, First, Both, More, Ended, Quit, Poll, Send, Judge}
-use Rattle.block.specs.Block.{verdict}
-use Rattle.block.specs.declared.Verdict.{Verdict}
-use Rattle.block.specs.declared.Verdict.the-variants.{Store, Refuse}
-use Rattle.block.proofs.Laws.{few-decimals, verdict-stores}
+use Rattle.block.specs.Block.{blockItem, blockValue, blockNumber}
+use Rattle.block.proofs.Laws.{block-stores}
 use Rattle.rkc.specs.declared.Link.{Link}
-use Rattle.rkc.specs.State.{used, inLimits}
-use Rattle.rkc.specs.Outcome.{Step, Outcome, quit, dataReply, itemSent, judged, keeping, performed, asked, handedBack, received}
-use Rattle.rkc.specs.Outcome.{silent, goodSettings, byteFault, elapsed, patience, timedOut, idleFault, idled}
-use Rattle.rkc.specs.Demands.{allKeep, OfByte, OfIdle, stateText, OfAlarms}
-use Rattle.rkc.proofs.Cases.{call-state, call-none, byte-call, byte-none, received-fault, received-fine, idled-fault, idled-fine}
+use Rattle.rkc.specs.State.{used, inLimits, withMore, withEnd}
+use Rattle.rkc.specs.Outcome.{Step, Outcome, keeping, silent, quit, noRoom, dataReply, itemSent, performed, asked, handedBack}
+use Rattle.rkc.specs.Outcome.{stepFault, ByteCall, goodSettings, byteFault, received, IdleCall, elapsed, patience, timedOut, idleFault, idled}
+use Rattle.rkc.specs.Promise.{Steps, Does}
+use Rattle.rkc.specs.Numbers.{oneOf, byteFaults, byteNumbers, byteExamples, idleFaults, idleNumbers, idleExamples}
+use Rattle.rkc.specs.Demands.{allKeep, nextByte, OfByte, nextIdle, OfIdle, OfNumbers, stateText, OfAlarms}
+use Rattle.rkc.proofs.Cases.{step-state, step-none, step-next, byte-none, received-fault, received-fine, idled-fault, idled-fine}
 use Rattle.rkc.proofs.Limits.{used-small, asked-limited, performed-limits, used-in-limits}
 use Rattle.rkc.proofs.EachReply.{received-reply, idled-reply}
+use Rattle.rkc.proofs.Given.{one-passes, byte-faults, idle-faults, act-numbers}
 
 -- ---- what an act leaves of the table
 
 module _ (l : Link) (t : List ℤ) (structure time : ℕ) where
-  stored-only : (c : ℕ) (P : List ℤ → Type 0) → P t
-      → ((i : ℕ) (v : ℤ) → itemAt i .writable ≡ true → inRange i v ≡ true → P (table.stored t i v))
-      → P (performed l t structure time (Judge c) .table)
-  unfolding performed
-  stored-only c P same new = by (verdict (l .mark) (l .bcc) (l .count) (l .kept) c) refl
-    where
-      by : (v : Verdict) → verdict (l .mark) (l .bcc) (l .count) (l .kept) c ≡ v → P (judged structure t v .table)
-      by (Store i v) e = let s = verdict-stores (l .mark) (l .bcc) (l .count) (l .kept) c i v e in new i v (s .writable) (s .ranged)
-      by (Refuse n) e = same
-
-  -- an act leaves the table, or stores a value in its range in a writable item
+  -- it leaves the table, or stores a value in its range in a writable item
   leaves : (x : Act) (P : List ℤ → Type 0) → P t
-      → ((i : ℕ) (v : ℤ) → itemAt i .writable ≡ true → inRange i v ≡ true → P (table.stored t i v))
+      → ((i : ℕ) (v : ℤ) → itemAt i .writable ≡ true → inRange i v ≡ true → P (stored t i v))
       → P (performed l t structure time x .table)
   unfolding performed
   leaves (Go phase) P same new = same
@@ -63,7 +57,27 @@ module _ (l : Link) (t : List ℤ) (structure time : ℕ) where
   leaves (Quit number) P same new = same
   leaves (Poll a b) P same new = same
   leaves (Send item) P same new = same
-  leaves (Judge c) P same new = stored-only c P same new
+  leaves (Judge c) P same new =
+      chosen (λ (o : Outcome). P (o .table)) (eqb (blockNumber (l .mark) (l .bcc) (l .count) (l .kept) c) none)
+      (λ e. let s = block-stores (l .mark) (l .bcc) (l .count) (l .kept) c (eqb-true _ _ e) in new _ _ (s .writable) (s .ranged))
+      (λ _. same)
+
+  -- where it gives a number it leaves the table
+  abbrev LeftIfMet : Outcome → Type 0
+  LeftIfMet o = (o .step .number ≡ none → ⊥) → o .table ≡ t
+
+  numbered-leaves : (x : Act) → LeftIfMet (performed l t structure time x)
+  unfolding performed
+  numbered-leaves (Go phase) = λ _. refl
+  numbered-leaves (First a) = λ _. refl
+  numbered-leaves (Both a b) = λ _. refl
+  numbered-leaves (More c) = λ _. refl
+  numbered-leaves Ended = λ _. refl
+  numbered-leaves (Quit number) = λ _. refl
+  numbered-leaves (Poll a b) = λ _. refl
+  numbered-leaves (Send item) = λ _. refl
+  numbered-leaves (Judge c) =
+      chosen LeftIfMet (eqb (blockNumber (l .mark) (l .bcc) (l .count) (l .kept) c) none) (λ _ h. absurd (h refl)) (λ _ _. refl)
 
 -- ---- what is sent
 
@@ -77,95 +91,124 @@ one-keeps structure c = rw (sent-keeps structure c)
 -- ---- one received byte
 
 -- no fault, put together again
-no-fault : (l : Link) (t : List ℤ) (buffer address structure : ℕ) → tableFault t ≡ none → leastBuffer ≤ buffer
-    → goodSettings address structure ≡ true → inLimits l ≡ true → byteFault l t buffer address structure ≡ none
-no-fault l t buffer address structure z b s h =
-    byte-call l t buffer address structure refl z ∙ call-state l buffer (goodSettings address structure) b s (sym h)
+no-fault : (call : ByteCall) → tableFault (call .table) ≡ none → leastBuffer ≤ length (call .buffer)
+    → goodSettings (call .address) (call .structure) ≡ true → inLimits (call .link) ≡ true → byteFault call ≡ none
+unfolding byteFault
+no-fault call z b s h =
+    step-next (call .table) (stepFault (call .link) (length (call .buffer)) (goodSettings (call .address) (call .structure))) refl z
+    ∙ step-state (call .link) (length (call .buffer)) (goodSettings (call .address) (call .structure)) b s (sym h)
 
-module _ (l : Link) (t : List ℤ) (buffer address structure time byte : ℕ) where
-  -- a claim about an outcome: of a fault, and of an act performed in a state within its limits
+module _ (call : ByteCall) where
+  -- a claim about an outcome: of a fault, and of the act that is asked for
   by-outcome : (P : Outcome → Type 0)
-      → ((byteFault l t buffer address structure ≡ none → ⊥) → P (keeping t (handedBack l (byteFault l t buffer address structure))))
-      → (byteFault l t buffer address structure ≡ none → P (performed (used l) t structure time (asked (used l) address (heard structure byte))))
-      → P (received l t buffer address structure time byte)
-  by-outcome P fault fine = by (eqb (byteFault l t buffer address structure) none) refl
-    where
-      by : (b : Bool) → eqb (byteFault l t buffer address structure) none ≡ b → P (received l t buffer address structure time byte)
-      by true e = let z = eqb-true _ _ e in rw (received-fine l t buffer address structure time byte refl z) (fine z)
-      by false e = let n = eqb-false _ _ e in rw (received-fault l t buffer address structure time byte refl n) (fault n)
+      → ((byteFault call ≡ none → ⊥) → P (keeping (call .table) (handedBack (call .link) (byteFault call))))
+      → (byteFault call ≡ none → P (performed (used (call .link)) (call .table) (call .structure) (call .time) (asked (used (call .link)) (call .address) (heard (call .structure) (call .byte)))))
+      → P (received call)
+  unfolding received
+  by-outcome P fault fine =
+      chosen P (eqb (byteFault call) none) (λ e. fine (eqb-true _ _ e)) (λ e. fault (eqb-false _ _ e))
 
-  -- where no fault is met: buffer, settings and state, and the state after the step
-  fine : byteFault l t buffer address structure ≡ none → (leastBuffer ≤ buffer) × (goodSettings address structure ≡ true) × (inLimits l ≡ true)
-  fine z = call-none l buffer (goodSettings address structure) (byte-none l t buffer address structure z .1)
+  -- where no fault is met: buffer, settings and state
+  fine : byteFault call ≡ none → (leastBuffer ≤ length (call .buffer)) × (goodSettings (call .address) (call .structure) ≡ true) × (inLimits (call .link) ≡ true)
+  fine z = step-none (call .link) (length (call .buffer)) (goodSettings (call .address) (call .structure)) (byte-none call z .1)
 
-  after : byteFault l t buffer address structure ≡ none → inLimits (received l t buffer address structure time byte .step .link) ≡ true
+  after : byteFault call ≡ none → inLimits (received call .step .link) ≡ true
   after z =
       let h = fine z .2 in
-      rw (received-fine l t buffer address structure time byte refl z)
-      (performed-limits (used l) t structure time _ (used-small l h) (asked-limited l h address (heard structure byte)))
+      rw (received-fine call refl z)
+      (performed-limits (used (call .link)) (call .table) (call .structure) (call .time) _ (used-small (call .link) h) (asked-limited (call .link) h (call .address) (heard (call .structure) (call .byte))))
 
-  good-after : goodTable t ≡ true → goodTable (received l t buffer address structure time byte .table) ≡ true
-  good-after g =
-      by-outcome (λ (o : Outcome). goodTable (o .table) ≡ true) (λ n. g)
-      (λ z. leaves (used l) t structure time _ (λ (u : List ℤ). goodTable u ≡ true) g (λ i v w r. good-stored t i v g r))
+  -- what holds of the table as it came and after a store in range in a writable item
+  of-table : (P : List ℤ → Type 0) → P (call .table)
+      → ((i : ℕ) (v : ℤ) → itemAt i .writable ≡ true → inRange i v ≡ true → P (stored (call .table) i v))
+      → P (received call .table)
+  of-table P same new =
+      by-outcome (λ (o : Outcome). P (o .table)) (λ _. same)
+      (λ _. leaves (used (call .link)) (call .table) (call .structure) (call .time) _ P same new)
 
-  pub demand-1-byte : OfByte l t buffer address structure time byte
+  good-after : goodTable (call .table) ≡ true → goodTable (received call .table) ≡ true
+  good-after g = of-table (λ (u : List ℤ). goodTable u ≡ true) g (λ i v w r. good-stored (call .table) i v g r)
+
+  numbers : byteFault call ≡ none → oneOf byteNumbers (received call .step .number) ≡ true
+  numbers z =
+      rw (received-fine call refl z)
+      (act-numbers (used (call .link)) (call .table) (eq-eqb _ _ (byte-none call z .0)) (call .structure) (call .time) (call .address) (heard (call .structure) (call .byte)) (asked-limited (call .link) (fine z .2) (call .address) (heard (call .structure) (call .byte))))
+
+  pub demand-1-byte : OfByte call
   demand-1-byte = record {
-    refusalLeavesAll = λ n. rw (received-fault l t buffer address structure time byte refl n) (refl, refl, refl);
-    readOnlyStays = λ j r. by-outcome (λ (o : Outcome). entry (o .table) j ≡ entry t j) (λ n. refl)
-        (λ z. leaves (used l) t structure time _ (λ (u : List ℤ). entry u j ≡ entry t j) refl (λ i v w g. stored-read-only t i j v w r));
+    faultLeavesAll = λ n r after left p.
+        let q = subst (λ (o : Outcome). Does o r (call .buffer) after left) (received-fault call refl n) p in
+        (q .steps .back, q .steps .sent, q .left);
+    faultNumbers = λ n. rw (received-fault call refl n) (byte-faults call n);
+    otherNumbers = λ z. numbers z;
+    noFaultNumber = λ z. not-true _ (one-passes (λ (n : ℕ). not (within 1 9 n)) byteNumbers (received call .step .number) refl (numbers z));
+    alwaysRoom = λ z e. contrary (sym (rw e at (numbers z)));
+    numberLeavesTable = by-outcome (LeftIfMet (call .link) (call .table) (call .structure) (call .time)) (λ _ _. refl) (λ _. numbered-leaves (used (call .link)) (call .table) (call .structure) (call .time) _);
+    staysOrInRange = λ j. of-table (λ (u : List ℤ). (entry u j ≡ entry (call .table) j) ⊎ (inRange j (entry u j) ≡ true)) (inl refl)
+        (λ i v w r. stored-in-range (call .table) i j v r);
+    readOnlyStays = λ j r. of-table (λ (u : List ℤ). entry u j ≡ entry (call .table) j) refl (λ i v w g. stored-read-only (call .table) i j v w r);
     goodStaysGood = λ g. good-after g;
     staysInLimits = λ z. after z;
-    runsOn = λ z.
+    runsOn = λ z time byte.
         let f = fine z in
-        let g = good-after (eq-eqb _ _ (byte-none l t buffer address structure z .0)) in
-        no-fault _ _ buffer address structure (eqb-true _ _ g) (f .0) (f .1) (after z);
-    keepsStructure = received-reply (λ (r : List ℕ). allKeep structure r ≡ true) structure refl (one-keeps structure)
-        (λ i six e. sent-all-keep structure (dataReply i six)) l t buffer address time byte;
+        let g = good-after (eq-eqb _ _ (byte-none call z .0)) in
+        no-fault (nextByte call time byte) (eqb-true _ _ g) (rw (length-sets (call .buffer) 0 (received call .step .reply)) (f .0)) (f .1) (after z);
+    keepsStructure = received-reply (λ (r : List ℕ). allKeep (call .structure) r ≡ true) refl call (one-keeps (call .structure))
+        (λ i six e. sent-all-keep (call .structure) (dataReply i six));
   }
 
 -- ---- an idle call
 
-module _ (l : Link) (buffer structure time : ℕ) where
+module _ (call : IdleCall) where
   by-step : (P : Step → Type 0)
-      → ((idleFault l buffer structure ≡ none → ⊥) → P (handedBack l (idleFault l buffer structure)))
-      → (idleFault l buffer structure ≡ none → P (quit structure timedOut))
-      → (idleFault l buffer structure ≡ none → P (silent (used l)))
-      → P (idled l buffer structure time)
-  by-step P fault late early = by (eqb (idleFault l buffer structure) none) refl
-    where
-      by : (b : Bool) → eqb (idleFault l buffer structure) none ≡ b → P (idled l buffer structure time)
-      by true e =
-          let z = eqb-true _ _ e in
-          rw (idled-fine l buffer structure time refl z)
-          (chosen P (eqb (used l .phase) waiting && leb patience (elapsed time (used l .time))) (λ _. late z) (λ _. early z))
-      by false e = let n = eqb-false _ _ e in rw (idled-fault l buffer structure time refl n) (fault n)
+      → ((idleFault call ≡ none → ⊥) → P (handedBack (call .link) (idleFault call)))
+      → (idleFault call ≡ none → P (quit (call .structure) timedOut))
+      → (idleFault call ≡ none → P (silent (used (call .link))))
+      → P (idled call)
+  unfolding idled
+  by-step P fault late early =
+      chosen P (eqb (idleFault call) none)
+      (λ e. chosen P (eqb (used (call .link) .phase) waiting && leb patience (elapsed (call .time) (used (call .link) .time)))
+      (λ _. late (eqb-true _ _ e))
+      (λ _. early (eqb-true _ _ e)))
+      (λ e. fault (eqb-false _ _ e))
 
-  idle-fine : idleFault l buffer structure ≡ none → (leastBuffer ≤ buffer) × (leb structure 2 ≡ true) × (inLimits l ≡ true)
+  idle-fine : idleFault call ≡ none → (leastBuffer ≤ length (call .buffer)) × (leb (call .structure) lastStructure ≡ true) × (inLimits (call .link) ≡ true)
   unfolding idleFault
-  idle-fine z = call-none l buffer (leb structure 2) z
+  idle-fine z = step-none (call .link) (length (call .buffer)) (leb (call .structure) lastStructure) z
 
-  idle-after : idleFault l buffer structure ≡ none → inLimits (idled l buffer structure time .link) ≡ true
+  idle-after : idleFault call ≡ none → inLimits (idled call .link) ≡ true
   unfolding inLimits
   idle-after z =
-      by-step (λ (s : Step). inLimits (s .link) ≡ true) (λ n. absurd (n z)) (λ z. refl) (λ z. used-in-limits l (idle-fine z .2))
+      by-step (λ (s : Step). inLimits (s .link) ≡ true) (λ n. absurd (n z)) (λ z. refl) (λ z. used-in-limits (call .link) (idle-fine z .2))
 
-  pub demand-1-idle : OfIdle l buffer structure time
+  pub demand-1-idle : OfIdle call
   unfolding idleFault
   demand-1-idle = record {
-    refusalLeavesAll = λ n. rw (idled-fault l buffer structure time refl n) (refl, refl);
+    faultLeavesAll = λ n r after p.
+        let q = subst (λ (s : Step). Steps s r (call .buffer) after) (idled-fault call refl n) p in
+        (q .back, q .sent);
+    faultNumbers = λ n. rw (idled-fault call refl n) (idle-faults call n);
+    otherNumbers = λ z. by-step (λ (s : Step). oneOf idleNumbers (s .number) ≡ true) (λ n. absurd (n z)) (λ _. refl) (λ _. refl);
     staysInLimits = λ z. idle-after z;
-    runsOn = λ z. let f = idle-fine z in call-state _ buffer (leb structure 2) (f .0) (f .1) (sym (idle-after z));
-    keepsStructure = idled-reply (λ (r : List ℕ). allKeep structure r ≡ true) structure refl (one-keeps structure)
-        (λ i six e. sent-all-keep structure (dataReply i six)) l buffer time;
+    runsOn = λ z time.
+        let f = idle-fine z in
+        rw (length-sets (call .buffer) 0 (idled call .reply)) (step-state _ _ (leb (call .structure) lastStructure) (f .0) (f .1) (sym (idle-after z)));
+    keepsStructure = idled-reply (λ (r : List ℕ). allKeep (call .structure) r ≡ true) refl call (one-keeps (call .structure));
   }
+
+-- ---- each number is given: the definitions compute
+
+pub numbers-given : OfNumbers
+unfolding ones found inRange tableFault startValues stored keeps heard sent readNumber readValue fits text writeNumber written decided blockItem blockValue blockNumber used inLimits withMore withEnd performed stepFault byteFault received idleFault idled byteExamples idleExamples
+numbers-given = record { byBytes = refl; byIdles = refl }
 
 -- ---- the alarm states on the line
 
 -- the number text of an alarm's state
 alarm-text : (t : List ℤ) (limit : ℕ) (b : Bool) → leZ (entry t limit) (entry t table.M1) ≡ b
     → written 6 0 (table.alarm t limit) ≡ accepted (stateText b)
-unfolding table.alarm written fits text
+unfolding table.alarm written writeNumber fits text
 alarm-text t limit true e = rw e
 alarm-text t limit false e = rw e
 
@@ -175,33 +218,3 @@ alarms-polled structure time t = record {
   polledAA = rw (answered-AA t, alarm-text t table.A1 _ refl);
   polledAB = rw (answered-AB t, alarm-text t table.A2 _ refl);
 }
-
--- ---- an item of a good table is always sent: its answer fits six characters, so that 46 is not met
-
-module _ (i : ℕ) (h : i < items) where
-  abbrev FitsSix : ℤ → Type 0
-  FitsSix v = fits 6 (itemAt i .decimals) v ≡ true
-
-  -- a number of each line of the list, by a test that the whole list passes
-  line-fits : (f : Item → ℤ) → passes (λ (k : ℕ). fits 6 (itemAt k .decimals) (f (itemAt k))) items ≡ true → FitsSix (f (itemAt i))
-  line-fits f e = passes-at (λ (k : ℕ). fits 6 (itemAt k .decimals) (f (itemAt k))) items i e h
-
-  state-fits : (t : List ℤ) (limit : ℕ) → FitsSix (table.alarm t limit)
-  unfolding table.alarm fits
-  state-fits t limit = chosen FitsSix (leZ (entry t limit) (entry t table.M1)) (λ _. line-fits (λ x. pos 1) refl) (λ _. line-fits (λ x. pos 0) refl)
-
-  entry-fits : (t : List ℤ) → goodTable t ≡ true → FitsSix (entry t i)
-  unfolding inRange fits
-  entry-fits t g =
-      let r = both (leZ (itemAt i .low) (entry t i)) (leZ (entry t i) (itemAt i .high)) (good-entry t i g h) in
-      between-fits 6 (itemAt i .decimals) (itemAt i .low) (itemAt i .high) (entry t i) (r .0) (r .1) (line-fits (λ x. x .low) refl) (line-fits (λ x. x .high) refl)
-
-  answered-fits : (t : List ℤ) → goodTable t ≡ true → FitsSix (table.answered t i)
-  unfolding table.answered
-  answered-fits t g =
-      chosen FitsSix (eqb i table.AA) (λ _. state-fits t table.A1)
-      (λ _. chosen FitsSix (eqb i table.AB) (λ _. state-fits t table.A2) (λ _. entry-fits t g))
-
-  pub always-sent : (structure time : ℕ) (t : List ℤ) → goodTable t ≡ true → itemSent structure time t i .number ≡ none
-  unfolding itemSent
-  always-sent structure time t g = rw (fitting 6 (itemAt i .decimals) (table.answered t i) (few-decimals i h) (answered-fits t g))

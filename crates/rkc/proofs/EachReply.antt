@@ -15,19 +15,17 @@ use Rattle.items.specs.ItemList.{itemAt, found}
 use Rattle.table.specs.Table.{answered}
 use Rattle.items.specs.declared.Found.{Found}
 use Rattle.items.specs.declared.Found.the-variants.{At, Nothing}
-use Rattle.line.specs.Line.{ETX, EOT, ACK, NAK, sent, heard, bcc}
+use Rattle.line.specs.Line.{ETX, EOT, ACK, NAK, sent, bcc}
 use Rattle.text.specs.Writing.{written}
 use Rattle.text.proofs.Texts.{written-length}
 use Rattle.phases.specs.Phases.{waiting}
 use Rattle.phases.specs.declared.Act.{Act}
 use Rattle.phases.specs.declared.Act.the-variants.{Go, First, Both, More, Ended, Quit, Poll, Send, Judge}
-use Rattle.block.specs.Block.{verdict}
-use Rattle.block.specs.declared.Verdict.{Verdict}
-use Rattle.block.specs.declared.Verdict.the-variants.{Store, Refuse}
+use Rattle.block.specs.Block.{blockNumber}
 use Rattle.rkc.specs.declared.Link.{Link}
 use Rattle.rkc.specs.State.{used}
-use Rattle.rkc.specs.Outcome.{Step, Outcome, message, dataReply, itemSent, polled, judged, performed, asked, byteFault, received}
-use Rattle.rkc.specs.Outcome.{elapsed, patience, idleFault, idled}
+use Rattle.rkc.specs.Outcome.{Step, Outcome, message, dataReply, itemSent, polled, judged, performed}
+use Rattle.rkc.specs.Outcome.{ByteCall, byteFault, received, IdleCall, idleFault, elapsed, patience, idled}
 
 -- ---- every reply
 
@@ -44,9 +42,9 @@ module _ (P : List ℕ → Type 0) (structure : ℕ) (nothing : P []) (one : (c 
   polled-reply time t (At i) = item-reply time t i
   polled-reply time t Nothing = one EOT
 
-  judged-reply : (t : List ℤ) (v : Verdict) → P (judged structure t v .step .reply)
-  judged-reply t (Store i v) = one ACK
-  judged-reply t (Refuse n) = one NAK
+  judged-reply : (t : List ℤ) (l : Link) (c : ℕ) → P (judged structure t l c .step .reply)
+  judged-reply t l c =
+      chosen (λ (o : Outcome). P (o .step .reply)) (eqb (blockNumber (l .mark) (l .bcc) (l .count) (l .kept) c) none) (λ _. one ACK) (λ _. one NAK)
 
   performed-reply : (l : Link) (t : List ℤ) (time : ℕ) (x : Act) → P (performed l t structure time x .step .reply)
   unfolding performed
@@ -58,20 +56,23 @@ module _ (P : List ℕ → Type 0) (structure : ℕ) (nothing : P []) (one : (c 
   performed-reply l t time (Quit number) = one EOT
   performed-reply l t time (Poll a b) = polled-reply time t (found a b)
   performed-reply l t time (Send i) = item-reply time t (i - 1)
-  performed-reply l t time (Judge c) = judged-reply t (verdict (l .mark) (l .bcc) (l .count) (l .kept) c)
+  performed-reply l t time (Judge c) = judged-reply t l c
 
-  pub received-reply : (l : Link) (t : List ℤ) (buffer address time byte : ℕ) → P (received l t buffer address structure time byte .step .reply)
+module _ (P : List ℕ → Type 0) (nothing : P []) where
+  pub received-reply : (call : ByteCall) → ((c : ℕ) → P (sent (call .structure) c ∷ []))
+      → ((i : ℕ) (six : List ℕ) → length six ≡ 6 → P (map (sent (call .structure)) (dataReply i six)))
+      → P (received call .step .reply)
   unfolding received
-  received-reply l t buffer address time byte =
-      chosen (λ (o : Outcome). P (o .step .reply)) (eqb (byteFault l t buffer address structure) none)
-      (λ _. performed-reply (used l) t time (asked (used l) address (heard structure byte)))
+  received-reply call one item =
+      chosen (λ (o : Outcome). P (o .step .reply)) (eqb (byteFault call) none)
+      (λ _. performed-reply P (call .structure) nothing one item (used (call .link)) (call .table) (call .time) _)
       (λ _. nothing)
 
-  pub idled-reply : (l : Link) (buffer time : ℕ) → P (idled l buffer structure time .reply)
+  pub idled-reply : (call : IdleCall) → ((c : ℕ) → P (sent (call .structure) c ∷ [])) → P (idled call .reply)
   unfolding idled
-  idled-reply l buffer time =
-      chosen (λ (s : Step). P (s .reply)) (eqb (idleFault l buffer structure) none)
-      (λ _. chosen (λ (s : Step). P (s .reply)) (eqb (used l .phase) waiting && leb patience (elapsed time (used l .time)))
+  idled-reply call one =
+      chosen (λ (s : Step). P (s .reply)) (eqb (idleFault call) none)
+      (λ _. chosen (λ (s : Step). P (s .reply)) (eqb (used (call .link) .phase) waiting && leb patience (elapsed (call .time) (used (call .link) .time)))
       (λ _. one EOT)
       (λ _. nothing))
       (λ _. nothing)
@@ -86,13 +87,11 @@ data-reply-long structure i six e =
     let a = length-append (message i six) (bcc (message i six) ∷ []) in
     rw length-map (omega arith)
 
-module _ (structure : ℕ) where
-  abbrev Short : List ℕ → Type 0
-  Short reply = length reply ≤ 11
+abbrev Short : List ℕ → Type 0
+Short reply = length reply ≤ 11
 
-  pub received-short : (l : Link) (t : List ℤ) (buffer address time byte : ℕ)
-      → length (received l t buffer address structure time byte .step .reply) ≤ 11
-  received-short = received-reply Short structure (omega arith) (λ c. omega arith) (data-reply-long structure)
+pub received-short : (call : ByteCall) → length (received call .step .reply) ≤ 11
+received-short call = received-reply Short (omega arith) call (λ c. omega arith) (data-reply-long (call .structure))
 
-  pub idled-short : (l : Link) (buffer time : ℕ) → length (idled l buffer structure time .reply) ≤ 11
-  idled-short = idled-reply Short structure (omega arith) (λ c. omega arith) (data-reply-long structure)
+pub idled-short : (call : IdleCall) → length (idled call .reply) ≤ 11
+idled-short call = idled-reply Short (omega arith) call (λ c. omega arith)

@@ -1,7 +1,10 @@
 pub mod Lists
+pub mod Acts
 pub mod Used
 pub mod Cases
 pub mod Limits
 pub mod EachReply
+pub mod Fits
+pub mod Given
 pub mod Demands
 pub mod Single

@@ -25,13 +25,11 @@ use Rattle.phases.specs.Limits.{Listed, Limited}
 use Rattle.phases.specs.declared.Act.{Act}
 use Rattle.phases.specs.declared.Act.the-variants.{Go, First, Both, More, Ended, Quit, Poll, Send, Judge}
 use Rattle.phases.proofs.Laws.{decided-limited}
-use Rattle.block.specs.Block.{verdict}
-use Rattle.block.specs.declared.Verdict.{Verdict}
-use Rattle.block.specs.declared.Verdict.the-variants.{Store, Refuse}
+use Rattle.block.specs.Block.{blockNumber}
 use Rattle.rkc.specs.declared.Link.{Link}
 use Rattle.rkc.specs.State.{inPhase, holdingOne, holdingTwo, waitingOn, block, inBlock, used, isCharacter, allCharacters}
 use Rattle.rkc.specs.State.{mostCounted, blockInLimits, inLimits, oneMore, withMore, withEnd}
-use Rattle.rkc.specs.Outcome.{Step, asked, itemSent, polled, judged, performed}
+use Rattle.rkc.specs.Outcome.{Step, Outcome, asked, itemSent, polled, performed}
 use Rattle.rkc.proofs.Used.{used-phase, asked-used}
 
 -- an identifier's first character, and an item that is waited on
@@ -157,11 +155,8 @@ performed-limits l t structure time (Poll a b) s x = by (found a b) refl
     by (At i) e = item-limits structure time t i (found-place a b i e .0)
     by Nothing e = refl
 performed-limits l t structure time (Send item) s x = item-limits structure time t (item - 1) (omega (arith, x .0, x .1))
-performed-limits l t structure time (Judge c) s x = by (verdict (l .mark) (l .bcc) (l .count) (l .kept) c)
-  where
-    by : (v : Verdict) → inLimits (judged structure t v .step .link) ≡ true
-    by (Store i v) = refl
-    by (Refuse n) = refl
+performed-limits l t structure time (Judge c) s x =
+    chosen (λ (o : Outcome). inLimits (o .step .link) ≡ true) (eqb (blockNumber (l .mark) (l .bcc) (l .count) (l .kept) c) none) (λ _. refl) (λ _. refl)
 
 -- what is used of a state within its limits is within them
 pub used-in-limits : (l : Link) → inLimits l ≡ true → inLimits (used l) ≡ true

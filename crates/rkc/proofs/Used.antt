@@ -1,32 +1,30 @@
 -- A step looks at a state only where its phase uses it: it asks and does the same of a state as of what is used of it.
 -- Assumes nothing.
-use mathlib.Core.Path.{_≡_, refl, sym, ap}
-use mathlib.Core.Bool.{Bool, true, false, cond, not, _||_}
+use mathlib.Core.Path.{_≡_, refl, sym, ap, ap₂, _∙_}
+use mathlib.Core.Bool.{Bool, true, false, cond}
 use mathlib.Core.List.{List}
-use Prim.Native.Nat.{ℕ, _/_, _%_, _≤_}
+use Prim.Native.Nat.{ℕ}
 use native.Mathlib.Omega.{arith}
-use borrow.Author.Tests.{eqb-true, ltb-false}
-use lib.Dec.{eqb, ltb}
+use borrow.Author.Tests.{eqb-true, ne-eqb, leb-true}
+use lib.Dec.{eqb, leb}
 use lib.IntN.{ℤ}
-use lib.ListN.{getD, take, drop}
-use Rattle.numbers.proofs.Tests.{chosen}
+use lib.ListN.{getD, drop}
+use Rattle.numbers.specs.Numbers.{none, firstMet}
+use Rattle.numbers.proofs.Tests.{contrary}
+use Rattle.numbers.proofs.Order.{none-at, test-held}
 use Rattle.kept.specs.Kept.{upTo}
 use Rattle.kept.proofs.Cut.{up-to-at, up-to-take}
-use Rattle.items.specs.declared.Found.{Found}
-use Rattle.items.specs.declared.Found.the-variants.{At, Nothing}
-use Rattle.items.specs.ItemList.{items, itemAt, found}
-use Rattle.line.specs.Line.{STX, EOT, ENQ, ACK, NAK, printable, isLineError}
-use Rattle.phases.specs.Phases.{firstDigit, secondDigit, addressed, oneCharacter, twoCharacters, waiting, text, bccDue, answered}
-use Rattle.phases.specs.Decision.{isTheDigit, astray, decided}
-use Rattle.phases.specs.declared.Act.{Act}
+use Rattle.items.specs.ItemList.{itemAt}
 use Rattle.text.specs.Numbers.{width}
-use Rattle.text.specs.Reading.{reading}
-use Rattle.text.specs.declared.Reading.the-variants.{TooLong}
-use Rattle.block.specs.Block.{lineError, wrongBcc, underTwo, identifierLength, mostKept, refuseIf, valueFor, forFound, verdict}
-use Rattle.block.specs.declared.Verdict.{Verdict}
+use Rattle.text.specs.Reading.{readValue}
+use Rattle.phases.specs.Phases.{oneCharacter, twoCharacters, waiting, text, bccDue}
+use Rattle.phases.specs.Decision.{decided}
+use Rattle.phases.specs.declared.Act.{Act}
+use Rattle.block.specs.Block.{underTwo, identifierLength, blockItem, blockValue, blockNumbers, blockNumber}
 use Rattle.rkc.specs.declared.Link.{Link}
 use Rattle.rkc.specs.State.{inPhase, holdingOne, holdingTwo, waitingOn, asBlock, inBlock, used}
-use Rattle.rkc.specs.Outcome.{performed, asked}
+use Rattle.rkc.specs.Outcome.{judged, performed, asked}
+use Rattle.rkc.proofs.Acts.{outside-act}
 
 -- ---- the phase, and the time that waiting uses
 
@@ -49,28 +47,45 @@ used-waiting l e = rw e
 
 -- ---- kept characters past the count
 
--- the verdict on a block does not look at them
+-- a block says the same without them once it has an identifier, and before that 13 is met
 module _ (count : ℕ) (kept : List ℕ) where
-  found-up-to : (f : Found) → forFound f count (upTo count kept) ≡ forFound f count kept
-  found-up-to Nothing = refl
-  found-up-to (At i) =
-      ap (λ (l : List ℕ). valueFor i (cond (ltb mostKept count) TooLong (reading width (itemAt i .decimals) (drop identifierLength l)))) (up-to-take count kept)
+  module _ (h : leb identifierLength count ≡ true) where
+    item-up-to : blockItem (upTo count kept) ≡ blockItem kept
+    unfolding blockItem
+    item-up-to =
+        let n = leb-true identifierLength count h in
+        rw (up-to-at count kept 0 (omega arith), up-to-at count kept 1 (omega arith))
 
-  named-up-to : identifierLength ≤ count
-      → forFound (found (getD (upTo count kept) 0 0) (getD (upTo count kept) 1 0)) count (upTo count kept) ≡ forFound (found (getD kept 0 0) (getD kept 1 0)) count kept
-  named-up-to h =
-      rw (up-to-at count kept 0 (omega arith), up-to-at count kept 1 (omega arith)) (found-up-to (found (getD kept 0 0) (getD kept 1 0)))
+    value-up-to : blockValue count (upTo count kept) ≡ blockValue count kept
+    unfolding blockValue
+    value-up-to =
+        ap₂ (λ (i : ℕ) (cs : List ℕ). readValue width (itemAt i .decimals) (drop identifierLength cs)) item-up-to (up-to-take count kept)
 
-  pub verdict-up-to : (mark : Bool) (sum c : ℕ) → verdict mark sum count (upTo count kept) c ≡ verdict mark sum count kept c
-  unfolding verdict
-  verdict-up-to mark sum c =
-      ap (λ (v : Verdict). refuseIf (mark || isLineError c) lineError (refuseIf (not (eqb c sum)) wrongBcc v)) (by (ltb count identifierLength) refl)
-    where
-      by : (b : Bool) → ltb count identifierLength ≡ b
-          → refuseIf b underTwo (forFound (found (getD (upTo count kept) 0 0) (getD (upTo count kept) 1 0)) count (upTo count kept))
-          ≡ refuseIf b underTwo (forFound (found (getD kept 0 0) (getD kept 1 0)) count kept)
-      by true e = refl
-      by false e = named-up-to (ltb-false count identifierLength e)
+  module _ (mark : Bool) (sum c : ℕ) where
+    number-up-to : blockNumber mark sum count (upTo count kept) c ≡ blockNumber mark sum count kept c
+    unfolding blockNumber
+    number-up-to = by (leb identifierLength count) refl
+      where
+        by : (b : Bool) → leb identifierLength count ≡ b
+            → firstMet (blockNumbers mark sum count (upTo count kept) c) ≡ firstMet (blockNumbers mark sum count kept c)
+        by true e =
+            let decimals = ap (λ (i : ℕ). itemAt i .decimals) (item-up-to e) in
+            let writable = ap (λ (i : ℕ). itemAt i .writable) (item-up-to e) in
+            rw (decimals, writable, item-up-to e, value-up-to e, up-to-take count kept)
+        by false e = rw e
+
+    has-identifier : blockNumber mark sum count kept c ≡ none → leb identifierLength count ≡ true
+    unfolding blockNumber
+    has-identifier z = test-held _ underTwo (omega arith) (none-at (blockNumbers mark sum count kept c) 2 z)
+
+-- so the answer does not look at them
+pub judged-up-to : (structure : ℕ) (t : List ℤ) (l : Link) (c : ℕ) → judged structure t (asBlock l) c ≡ judged structure t l c
+judged-up-to structure t l c = by (leb identifierLength (l .count)) refl
+  where
+    by : (b : Bool) → leb identifierLength (l .count) ≡ b → judged structure t (asBlock l) c ≡ judged structure t l c
+    by true e = rw (number-up-to (l .count) (l .kept) (l .mark) (l .bcc) c, item-up-to (l .count) (l .kept) e, value-up-to (l .count) (l .kept) e)
+    by false e =
+        rw (number-up-to (l .count) (l .kept) (l .mark) (l .bcc) c, ne-eqb (blockNumber (l .mark) (l .bcc) (l .count) (l .kept) c) none (λ z. contrary (sym (has-identifier (l .count) (l .kept) (l .mark) (l .bcc) c z) ∙ e)))
 
 -- ---- what a character asks for
 
@@ -116,29 +131,13 @@ asked-used l address c =
 
 -- ---- what is done
 
--- two states in which an act does the same
-module _ (l k : Link) (t : List ℤ) (structure time : ℕ) where
-  abbrev Same : Act → Type 0
-  Same x = performed l t structure time x ≡ performed k t structure time x
-
-  astray-same : (c : ℕ) → Same (astray c)
-  unfolding performed
-  astray-same c = chosen Same (isLineError c) (λ _. refl) (λ _. refl)
-
-  -- outside a block no act asks for the state
-  outside-same : (phase first second item address c : ℕ) → eqb phase bccDue ≡ false → eqb phase text ≡ false → Same (decided phase first second item address c)
-  unfolding decided performed
-  outside-same phase first second item address c p q =
-      simp (p, q)
-      (chosen Same (eqb c EOT) (λ _. refl)
-      (λ _. chosen Same (eqb phase firstDigit) (λ _. chosen Same (isTheDigit (address / 10) c) (λ _. refl) (λ _. refl))
-      (λ _. chosen Same (eqb phase secondDigit) (λ _. chosen Same (isTheDigit (address % 10) c) (λ _. refl) (λ _. refl))
-      (λ _. chosen Same (eqb phase addressed) (λ _. chosen Same (eqb c STX) (λ _. refl) (λ _. chosen Same (printable c) (λ _. refl) (λ _. refl)))
-      (λ _. chosen Same (eqb phase oneCharacter) (λ _. chosen Same (printable c) (λ _. refl) (λ _. astray-same c))
-      (λ _. chosen Same (eqb phase twoCharacters) (λ _. chosen Same (eqb c ENQ) (λ _. refl) (λ _. astray-same c))
-      (λ _. chosen Same (eqb phase waiting)
-      (λ _. chosen Same (eqb c ACK) (λ _. chosen Same (ltb item items) (λ _. refl) (λ _. refl)) (λ _. chosen Same (eqb c NAK) (λ _. refl) (λ _. refl)))
-      (λ _. chosen Same (eqb phase answered) (λ _. chosen Same (eqb c STX) (λ _. refl) (λ _. refl)) (λ _. refl)))))))))
+-- outside a block no act asks for the state
+outside-same : (l k : Link) (t : List ℤ) (structure time phase a b item address c : ℕ) → eqb phase bccDue ≡ false → eqb phase text ≡ false
+    → performed l t structure time (decided phase a b item address c) ≡ performed k t structure time (decided phase a b item address c)
+unfolding performed
+outside-same l k t structure time =
+    outside-act (λ (x : Act). performed l t structure time x ≡ performed k t structure time x) (λ p. refl) (λ a. refl) (λ a b. refl)
+    (λ a b. refl) (λ i. refl) refl refl refl
 
 -- in a block that is what is used
 used-block : (l : Link) (phase : ℕ) → l .phase ≡ phase → inBlock phase ≡ true → eqb phase oneCharacter ≡ false → eqb phase twoCharacters ≡ false → eqb phase waiting ≡ false

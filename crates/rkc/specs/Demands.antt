@@ -1,48 +1,87 @@
--- Demand 1 for the RKC line, and what else the customer asks of it: claims about the definitions `received` and `idled`.
+-- Demand 1 for the RKC line, and what else the customer asks of it: claims about every call.
 use mathlib.Core.Path.{_≡_}
+use mathlib.Core.Logic.{_⊎_}
 use mathlib.Core.Bool.{Bool, true, false, _&&_}
-use mathlib.Core.List.{List, [], _∷_, map}
+use mathlib.Core.List.{List, [], _∷_, _++_, map}
 use Prim.Native.Nat.{ℕ, _+_}
 use lib.IntN.{ℤ}
+use lib.Seq.{sets}
 use lib.Signed.{leZ}
 use Rattle.numbers.specs.Numbers.{none}
-use Rattle.items.specs.ItemList.{itemAt}
+use Rattle.items.specs.ItemList.{itemAt, inRange}
 use Rattle.table.specs.Table.{goodTable, entry, M1, AA, AB, A1, A2}
-use Rattle.line.specs.Line.{keeps, sent}
-use Rattle.rkc.specs.declared.Link.{Link}
+use Rattle.line.specs.Line.{within, keeps, sent}
+use Rattle.rkc.specs.declared.Stepped.{Stepped}
 use Rattle.rkc.specs.State.{waitingOn, inLimits}
-use Rattle.rkc.specs.Outcome.{Step, dataReply, itemSent, byteFault, received, idleFault, idled}
+use Rattle.rkc.specs.Outcome.{Step, noRoom, dataReply, itemSent, ByteCall, byteFault, received, IdleCall, idleFault, idled}
+use Rattle.rkc.specs.Numbers.{oneOf, byteFaults, byteNumbers, byteExamples, idleFaults, idleNumbers, idleExamples}
+use Rattle.rkc.specs.Promise.{Leads, Idles}
 
 -- every byte keeps the line structure
 abbrev pub allKeep : ℕ → List ℕ → Bool
 allKeep structure [] = true
 allKeep structure (b ∷ bs) = keeps structure b && allKeep structure bs
 
--- What is claimed of one received byte, whatever was handed in:
--- the caller's fault leaves state and table and sends nothing; a read-only item keeps its number; a good table stays good, so
--- each writable item stays in its range; the state handed back is within its limits, so that the next call meets no fault
--- either; each byte sent keeps the line structure.
-pub record OfByte (l : Link) (t : List ℤ) (buffer address structure time byte : ℕ) : Type 0 where
-  pub refusalLeavesAll : (byteFault l t buffer address structure ≡ none → ⊥)
-      → (received l t buffer address structure time byte .step .link ≡ l)
-      × (received l t buffer address structure time byte .step .reply ≡ [])
-      × (received l t buffer address structure time byte .table ≡ t)
-  pub readOnlyStays : (j : ℕ) → itemAt j .writable ≡ false
-      → entry (received l t buffer address structure time byte .table) j ≡ entry t j
-  pub goodStaysGood : goodTable t ≡ true → goodTable (received l t buffer address structure time byte .table) ≡ true
-  pub staysInLimits : byteFault l t buffer address structure ≡ none
-      → inLimits (received l t buffer address structure time byte .step .link) ≡ true
-  pub runsOn : byteFault l t buffer address structure ≡ none
-      → byteFault (received l t buffer address structure time byte .step .link) (received l t buffer address structure time byte .table) buffer address structure ≡ none
-  pub keepsStructure : allKeep structure (received l t buffer address structure time byte .step .reply) ≡ true
+-- ---- one received byte
 
--- the same of an idle call, which has no table
-pub record OfIdle (l : Link) (buffer structure time : ℕ) : Type 0 where
-  pub refusalLeavesAll : (idleFault l buffer structure ≡ none → ⊥)
-      → (idled l buffer structure time .link ≡ l) × (idled l buffer structure time .reply ≡ [])
-  pub staysInLimits : idleFault l buffer structure ≡ none → inLimits (idled l buffer structure time .link) ≡ true
-  pub runsOn : idleFault l buffer structure ≡ none → idleFault (idled l buffer structure time .link) buffer structure ≡ none
-  pub keepsStructure : allKeep structure (idled l buffer structure time .reply) ≡ true
+-- a call on what another left: state, table and buffer
+abbrev pub nextByte : ByteCall → ℕ → ℕ → ByteCall
+nextByte call time byte =
+    record {
+      link = received call .step .link;
+      table = received call .table;
+      buffer = sets (call .buffer) 0 (received call .step .reply);
+      address = call .address;
+      structure = call .structure;
+      time = time;
+      byte = byte;
+    }
+
+-- what is claimed of a byte call, whatever it is handed
+pub record OfByte (call : ByteCall) : Type 0 where
+  -- the caller's fault leaves state, table and buffer as they came, sends nothing and gives its number, 1 to 5
+  pub faultLeavesAll : (byteFault call ≡ none → ⊥) → (r : Stepped) (after : List ℕ) (left : List ℤ) → Leads call r after left
+      → (r ≡ record { link = call .link; number = byteFault call; len = 0 }) × (after ≡ call .buffer) × (left ≡ call .table)
+  pub faultNumbers : (byteFault call ≡ none → ⊥) → oneOf byteFaults (received call .step .number) ≡ true
+  -- without a fault it gives 0, 11 to 18, 41, 42, 43 or 45; so none of the numbers 1 to 9, and not 46: every item is sent
+  pub otherNumbers : byteFault call ≡ none → oneOf byteNumbers (received call .step .number) ≡ true
+  pub noFaultNumber : byteFault call ≡ none → within 1 9 (received call .step .number) ≡ false
+  pub alwaysRoom : byteFault call ≡ none → received call .step .number ≡ noRoom → ⊥
+  -- any number but 0 leaves the table
+  pub numberLeavesTable : (received call .step .number ≡ none → ⊥) → received call .table ≡ call .table
+  -- each entry is unchanged or in its range; a read-only item keeps its number; a good table stays good
+  pub staysOrInRange : (j : ℕ) → (entry (received call .table) j ≡ entry (call .table) j) ⊎ (inRange j (entry (received call .table) j) ≡ true)
+  pub readOnlyStays : (j : ℕ) → itemAt j .writable ≡ false → entry (received call .table) j ≡ entry (call .table) j
+  pub goodStaysGood : goodTable (call .table) ≡ true → goodTable (received call .table) ≡ true
+  -- the state handed back is within its limits, and the next call meets no fault either
+  pub staysInLimits : byteFault call ≡ none → inLimits (received call .step .link) ≡ true
+  pub runsOn : byteFault call ≡ none → (time byte : ℕ) → byteFault (nextByte call time byte) ≡ none
+  -- each byte sent keeps the line structure
+  pub keepsStructure : allKeep (call .structure) (received call .step .reply) ≡ true
+
+-- ---- an idle call, which has no table
+
+abbrev pub nextIdle : IdleCall → ℕ → IdleCall
+nextIdle call time =
+    record { link = idled call .link; buffer = sets (call .buffer) 0 (idled call .reply); structure = call .structure; time = time }
+
+-- what is claimed of it: its faults are 3, 4 and 5, and without one it gives 0 or 44
+pub record OfIdle (call : IdleCall) : Type 0 where
+  pub faultLeavesAll : (idleFault call ≡ none → ⊥) → (r : Stepped) (after : List ℕ) → Idles call r after
+      → (r ≡ record { link = call .link; number = idleFault call; len = 0 }) × (after ≡ call .buffer)
+  pub faultNumbers : (idleFault call ≡ none → ⊥) → oneOf idleFaults (idled call .number) ≡ true
+  pub otherNumbers : idleFault call ≡ none → oneOf idleNumbers (idled call .number) ≡ true
+  pub staysInLimits : idleFault call ≡ none → inLimits (idled call .link) ≡ true
+  pub runsOn : idleFault call ≡ none → (time : ℕ) → idleFault (nextIdle call time) ≡ none
+  pub keepsStructure : allKeep (call .structure) (idled call .reply) ≡ true
+
+-- ---- each of these numbers is given
+
+pub record OfNumbers : Type 0 where
+  pub byBytes : map (λ (call : ByteCall). received call .step .number) byteExamples ≡ byteFaults ++ byteNumbers
+  pub byIdles : map (λ (call : IdleCall). idled call .number) idleExamples ≡ idleFaults ++ idleNumbers
+
+-- ---- the alarm states
 
 -- "000001" where an alarm's state is 1, else "000000"
 abbrev pub stateText : Bool → List ℕ

@@ -1,4 +1,5 @@
 pub mod State
 pub mod Outcome
 pub mod Promise
+pub mod Numbers
 pub mod Demands

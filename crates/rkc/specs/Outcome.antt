@@ -4,8 +4,8 @@ use mathlib.Core.List.{List, [], _∷_, _++_, map}
 use Prim.Native.Nat.{ℕ, _+_, _-_, _%_, _^_}
 use lib.Dec.{leb, eqb}
 use lib.IntN.{ℤ}
-use lib.ListN.{getD}
-use Rattle.numbers.specs.Numbers.{none, unless, firstMet, shortBuffer, leastBuffer, badSetting, lastAddress}
+use lib.ListN.{length, getD}
+use Rattle.numbers.specs.Numbers.{none, unless, firstMet, unlessMet, shortBuffer, leastBuffer, badSetting, lastAddress}
 use Rattle.items.specs.declared.Found.{Found}
 use Rattle.items.specs.declared.Found.the-variants.{At, Nothing}
 use Rattle.items.specs.ItemList.{itemAt, found}
@@ -19,9 +19,7 @@ use Rattle.phases.specs.Phases.{rest, waiting, unknownPolled}
 use Rattle.phases.specs.Decision.{decided}
 use Rattle.phases.specs.declared.Act.{Act}
 use Rattle.phases.specs.declared.Act.the-variants.{Go, First, Both, More, Ended, Quit, Poll, Send, Judge}
-use Rattle.block.specs.Block.{verdict}
-use Rattle.block.specs.declared.Verdict.{Verdict}
-use Rattle.block.specs.declared.Verdict.the-variants.{Store, Refuse}
+use Rattle.block.specs.Block.{blockItem, blockValue, blockNumber}
 use Rattle.rkc.specs.declared.Link.{Link}
 use Rattle.rkc.specs.State.{inPhase, holdingOne, holdingTwo, waitingOn, used, inLimits, withMore, withEnd}
 
@@ -45,6 +43,10 @@ pub record Step : Type 0 where
 pub record Outcome : Type 0 where
   pub step : Step
   pub table : List ℤ
+
+-- the table stays
+abbrev pub keeping : List ℤ → Step → Outcome
+keeping t s = record { step = s; table = t }
 
 -- nothing is sent
 abbrev pub silent : Link → Step
@@ -71,9 +73,8 @@ dataReply i six = STX ∷ (message i six ++ (bcc (message i six) ∷ []))
 -- an item's number text is sent and then waited on, or EOT where its value does not fit six characters
 abbrev pub withText : ℕ → ℕ → ℕ → Written → Step
 withText structure time i w =
-    cond (eqb (w .number) none)
+    unlessMet (w .number) (λ number. quit structure noRoom)
     (record { link = waitingOn (i + 1) time; number = none; reply = map (sent structure) (dataReply i (w .chars)) })
-    (quit structure noRoom)
 
 -- the item at a place of the list is sent, with its value now
 unfoldable pub itemSent : ℕ → ℕ → List ℤ → ℕ → Step
@@ -86,16 +87,17 @@ polled structure time t Nothing = quit structure unknownPolled
 
 -- ---- blocks
 
--- the answer is ACK with the item stored, or NAK
-abbrev pub judged : ℕ → List ℤ → Verdict → Outcome
-judged structure t (Store i v) = record { step = sends structure ACK (inPhase phases.answered) none; table = stored t i v }
-judged structure t (Refuse n) = record { step = sends structure NAK (inPhase phases.answered) n; table = t }
+-- the answer to a block, once a byte was heard in the BCC's place: NAK with the block's number, or ACK with the item stored
+abbrev pub judged : ℕ → List ℤ → Link → ℕ → Outcome
+judged structure t l c =
+    unlessMet (blockNumber (l .mark) (l .bcc) (l .count) (l .kept) c)
+    (λ number. keeping t (sends structure NAK (inPhase phases.answered) number))
+    (record {
+      step = sends structure ACK (inPhase phases.answered) none;
+      table = stored t (blockItem (l .kept)) (blockValue (l .count) (l .kept));
+    })
 
--- ---- one received byte
-
--- the table stays
-abbrev pub keeping : List ℤ → Step → Outcome
-keeping t s = record { step = s; table = t }
+-- ---- an act
 
 -- what an act does, in a state that has all at 0 that its phase doesn't use
 unfoldable pub performed : Link → List ℤ → ℕ → ℕ → Act → Outcome
@@ -107,41 +109,72 @@ performed l t structure time Ended = keeping t (silent (withEnd l))
 performed l t structure time (Quit number) = keeping t (quit structure number)
 performed l t structure time (Poll a b) = keeping t (polled structure time t (found a b))
 performed l t structure time (Send item) = keeping t (itemSent structure time t (item - 1))
-performed l t structure time (Judge c) = judged structure t (verdict (l .mark) (l .bcc) (l .count) (l .kept) c)
+performed l t structure time (Judge c) = judged structure t l c
 
 -- what a byte, as it was heard, asks for in a state
 abbrev pub asked : Link → ℕ → ℕ → Act
 asked l address c = decided (l .phase) (getD (l .kept) 0 0) (getD (l .kept) 1 0) (l .item) address c
 
--- the faults that every call looks at: buffer, settings, state
-unfoldable pub callFault : Link → ℕ → Bool → ℕ
-callFault l buffer settings =
+-- ---- what every step looks at
+
+-- buffer, settings, state
+unfoldable pub stepFault : Link → ℕ → Bool → ℕ
+stepFault l room settings =
     firstMet
-    (unless (leb leastBuffer buffer) shortBuffer
+    (unless (leb leastBuffer room) shortBuffer
     ∷ unless settings badSetting
     ∷ unless (inLimits l) badState
     ∷ [])
-
--- an address up to 99, a structure up to 2
-abbrev pub goodSettings : ℕ → ℕ → Bool
-goodSettings address structure = leb address lastAddress && leb structure lastStructure
-
--- a byte call looks at the table first
-unfoldable pub byteFault : Link → List ℤ → ℕ → ℕ → ℕ → ℕ
-byteFault l t buffer address structure =
-    firstMet (tableFault t ∷ callFault l buffer (goodSettings address structure) ∷ [])
 
 -- the caller's fault hands the state back as it came
 abbrev pub handedBack : Link → ℕ → Step
 handedBack l number = record { link = l; number = number; reply = [] }
 
-unfoldable pub received : Link → List ℤ → ℕ → ℕ → ℕ → ℕ → ℕ → Outcome
-received l t buffer address structure time byte =
-    cond (eqb (byteFault l t buffer address structure) none)
-    (performed (used l) t structure time (asked (used l) address (heard structure byte)))
-    (keeping t (handedBack l (byteFault l t buffer address structure)))
+-- ---- one received byte
+
+-- what the call is handed: the state; the table and the reply buffer as they came; the device's address, the line's structure, the
+-- present time and the byte
+pub record ByteCall : Type 0 where
+  pub link : Link
+  pub table : List ℤ
+  pub buffer : List ℕ
+  pub address : ℕ
+  pub structure : ℕ
+  pub time : ℕ
+  pub byte : ℕ
+
+-- an address up to 99, a structure up to 2
+abbrev pub goodSettings : ℕ → ℕ → Bool
+goodSettings address structure = leb address lastAddress && leb structure lastStructure
+
+-- the caller's fault: the table is looked at first
+unfoldable pub byteFault : ByteCall → ℕ
+byteFault call =
+    firstMet
+    (tableFault (call .table)
+    ∷ stepFault (call .link) (length (call .buffer)) (goodSettings (call .address) (call .structure))
+    ∷ [])
+
+-- where the caller made no fault, what the byte asks for is done
+unfoldable pub received : ByteCall → Outcome
+received call =
+    unlessMet (byteFault call)
+    (λ number. keeping (call .table) (handedBack (call .link) number))
+    (performed (used (call .link)) (call .table) (call .structure) (call .time)
+    (asked (used (call .link)) (call .address) (heard (call .structure) (call .byte))))
 
 -- ---- an idle call
+
+-- it is handed no table, no address and no byte
+pub record IdleCall : Type 0 where
+  pub link : Link
+  pub buffer : List ℕ
+  pub structure : ℕ
+  pub time : ℕ
+
+-- the caller's fault
+unfoldable pub idleFault : IdleCall → ℕ
+idleFault call = stepFault (call .link) (length (call .buffer)) (leb (call .structure) lastStructure)
 
 -- milliseconds from a time to the present, in a count that goes round
 abbrev pub elapsed : ℕ → ℕ → ℕ
@@ -150,17 +183,10 @@ elapsed present since = (present + (2 ^ 32 - since)) % 2 ^ 32
 abbrev pub patience : ℕ
 patience = 3000
 
--- an idle call has no table and no address
-unfoldable pub idleFault : Link → ℕ → ℕ → ℕ
-idleFault l buffer structure = callFault l buffer (leb structure lastStructure)
-
 -- waiting for three seconds or more: EOT, rest; else the state stays
 abbrev pub passed : Link → ℕ → ℕ → Step
 passed l structure time =
     cond (eqb (l .phase) waiting && leb patience (elapsed time (l .time))) (quit structure timedOut) (silent l)
 
-unfoldable pub idled : Link → ℕ → ℕ → ℕ → Step
-idled l buffer structure time =
-    cond (eqb (idleFault l buffer structure) none)
-    (passed (used l) structure time)
-    (handedBack l (idleFault l buffer structure))
+unfoldable pub idled : IdleCall → Step
+idled call = unlessMet (idleFault call) (handedBack (call .link)) (passed (used (call .link)) (call .structure) (call .time))

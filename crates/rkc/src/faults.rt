@@ -1,9 +1,13 @@
 // The caller's faults: what a state's limits are, and the order in which a call looks at what it is handed.
 ghost use mathlib.Core.Path.{_≡_};
+ghost use mathlib.Core.List.{[], _∷_};
+ghost use lib.Dec.{leb};
+ghost use Rattle.numbers.specs.Numbers.{firstMet};
 ghost use Rattle.items.specs.ItemList.{items};
-ghost use Rattle.line.specs.Line.{within};
+ghost use Rattle.table.specs.Table.{tableFault};
+ghost use Rattle.line.specs.Line.{lastStructure, within};
 ghost use Rattle.rkc.specs.State.{allCharacters, blockInLimits, inLimits};
-ghost use Rattle.rkc.specs.Outcome.{callFault, goodSettings, byteFault, idleFault};
+ghost use Rattle.rkc.specs.Outcome.{stepFault, goodSettings};
 use crate::Link;
 use crate::states::MOST_COUNTED;
 use line::LAST_STRUCTURE;
@@ -75,35 +79,35 @@ impl Link {
         }
     }
 
-    // The faults that every call looks at: buffer, settings, state; 0 for none.
-    fn fault(self, buffer: usize, settings: bool) -> u8
-        ensures { λ r. ⌜ r ≡ callFault self buffer settings ⌝ }
+    // What every step looks at: buffer, settings, state; 0 for no fault.
+    fn step_fault(self, room: usize, settings: bool) -> u8
+        ensures { λ r. ⌜ r ≡ stepFault self room settings ⌝ }
     {
-        if buffer < LEAST_BUFFER {
+        if room < LEAST_BUFFER {
             return SHORT_BUFFER;
         }
-        if settings {
-            if self.in_limits() { 0 } else { BAD_STATE }
-        } else {
-            BAD_SETTING
+        if !settings {
+            return BAD_SETTING;
         }
+        if self.in_limits() { 0 } else { BAD_STATE }
     }
 
     // The caller's fault in a byte call: the table is looked at first.
-    pub(crate) fn byte_fault(self, table: &[i32], buffer: usize, address: u8, structure: u8) -> u8
-        ensures { λ r. ⌜ r ≡ byteFault self (now (table .entry)) buffer address structure ⌝ }
+    pub(crate) fn byte_fault(self, table: &[i32], room: usize, address: u8, structure: u8) -> u8
+        ensures { λ r. ⌜ r ≡ firstMet
+            (tableFault (now (table .entry)) ∷ stepFault self room (goodSettings address structure) ∷ []) ⌝ }
     {
         let number = table::check(table);
         if number != 0 {
             return number;
         }
-        self.fault(buffer, good_settings(address, structure))
+        self.step_fault(room, good_settings(address, structure))
     }
 
     // The caller's fault in an idle call, which has no table and no address.
-    pub(crate) fn idle_fault(self, buffer: usize, structure: u8) -> u8
-        ensures { λ r. ⌜ r ≡ idleFault self buffer structure ⌝ }
+    pub(crate) fn idle_fault(self, room: usize, structure: u8) -> u8
+        ensures { λ r. ⌜ r ≡ stepFault self room (leb structure lastStructure) ⌝ }
     {
-        self.fault(buffer, structure <= LAST_STRUCTURE)
+        self.step_fault(room, structure <= LAST_STRUCTURE)
     }
 }

@@ -9,11 +9,9 @@ mod states;
 mod steps;
 
 ghost use mathlib.Core.Path.{_≡_};
-ghost use lib.ListN.{length};
 ghost use Rattle.phases.specs.Phases.{rest};
 ghost use Rattle.rkc.specs.State.{inPhase};
-ghost use Rattle.rkc.specs.Outcome.{received, idled};
-ghost use Rattle.rkc.specs.Promise.{Steps, Leads};
+ghost use Rattle.rkc.specs.Promise.{Leads, Idles};
 use phases::REST;
 use phases::WAITING;
 use replies::quit;
@@ -62,8 +60,15 @@ impl Link {
         time: u32,
         byte: u8,
     ) -> Stepped
-        ensures { λ r. ⌜ Leads (received self (now (table .entry)) (length (now (reply .entry))) address structure time byte) r
-            (now (reply .entry)) (now (reply .exit)) (now (table .exit)) ⌝ }
+        ensures { λ r. ⌜ Leads (record {
+          link = self;
+          table = now (table .entry);
+          buffer = now (reply .entry);
+          address = address;
+          structure = structure;
+          time = time;
+          byte = byte;
+        }) r (now (reply .exit)) (now (table .exit)) ⌝ }
     {
         let number = self.byte_fault(&table[..], reply.len(), address, structure);
         if number != 0 {
@@ -81,8 +86,9 @@ impl Link {
 
     // No byte came: a host that is waited on for three seconds or more is told EOT.
     pub fn idle(self, reply: &mut [u8], structure: u8, time: u32) -> Stepped
-        ensures { λ r. ⌜ Steps (idled self (length (now (reply .entry))) structure time) r
-            (now (reply .entry)) (now (reply .exit)) ⌝ }
+        ensures { λ r. ⌜ Idles
+            (record { link = self; buffer = now (reply .entry); structure = structure; time = time })
+            r (now (reply .exit)) ⌝ }
     {
         let number = self.idle_fault(reply.len(), structure);
         if number != 0 {

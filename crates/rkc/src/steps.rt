@@ -2,12 +2,12 @@
 ghost use mathlib.Core.Path.{_≡_};
 ghost use Prim.Native.Nat.{_≤_, _<_};
 ghost use lib.ListN.{length};
+ghost use Rattle.numbers.specs.Numbers.{leastBuffer};
 ghost use Rattle.items.specs.ItemList.{items, found};
 ghost use Rattle.phases.specs.Limits.{Limited};
-ghost use Rattle.block.specs.Block.{verdict};
 ghost use Rattle.rkc.specs.State.{asBlock};
 ghost use Rattle.rkc.specs.Outcome.{itemSent, polled, judged, performed, elapsed};
-ghost use Rattle.rkc.specs.Promise.{Steps, Leads};
+ghost use Rattle.rkc.specs.Promise.{Steps, Does};
 use crate::Link;
 use crate::Stepped;
 use crate::replies::data_reply;
@@ -32,7 +32,7 @@ const NO_ROOM: u8 = 46;
 
 // An item is sent with its value now, and waited on.
 fn send_item(table: &[i32], reply: &mut [u8], structure: u8, time: u32, i: usize) -> Stepped
-    requires { ⌜ (256 ≤ length (now reply)) × (i < items) ⌝ }
+    requires { ⌜ (leastBuffer ≤ length (now reply)) × (i < items) ⌝ }
     ensures { λ r. ⌜ Steps (itemSent structure time (now (table .entry)) i) r
         (now (reply .entry)) (now (reply .exit)) ⌝ }
 {
@@ -54,7 +54,7 @@ fn send_item(table: &[i32], reply: &mut [u8], structure: u8, time: u32, i: usize
 
 // What an identifier names is sent.
 fn poll(table: &[i32], reply: &mut [u8], structure: u8, time: u32, a: u8, b: u8) -> Stepped
-    requires { ⌜ 256 ≤ length (now reply) ⌝ }
+    requires { ⌜ leastBuffer ≤ length (now reply) ⌝ }
     ensures { λ r. ⌜ Steps (polled structure time (now (table .entry)) (found a b)) r
         (now (reply .entry)) (now (reply .exit)) ⌝ }
 {
@@ -67,8 +67,8 @@ fn poll(table: &[i32], reply: &mut [u8], structure: u8, time: u32, a: u8, b: u8)
 impl Link {
     // The block is judged: ACK with the item stored, or NAK.
     fn judge(self, table: &mut [i32], reply: &mut [u8], structure: u8, c: u8) -> Stepped
-        requires { ⌜ 256 ≤ length (now reply) ⌝ }
-        ensures { λ r. ⌜ Leads (judged structure (now (table .entry)) (verdict (self .mark) (self .bcc) (self .count) (self .kept) c)) r
+        requires { ⌜ leastBuffer ≤ length (now reply) ⌝ }
+        ensures { λ r. ⌜ Does (judged structure (now (table .entry)) self c) r
             (now (reply .entry)) (now (reply .exit)) (now (table .exit)) ⌝ }
     {
         let kept = self.kept;
@@ -90,8 +90,8 @@ impl Link {
         structure: u8,
         time: u32,
     ) -> Stepped
-        requires { ⌜ (256 ≤ length (now reply)) × Limited act ⌝ }
-        ensures { λ r. ⌜ Leads (performed (asBlock self) (now (table .entry)) structure time act) r
+        requires { ⌜ (leastBuffer ≤ length (now reply)) × Limited act ⌝ }
+        ensures { λ r. ⌜ Does (performed (asBlock self) (now (table .entry)) structure time act) r
             (now (reply .entry)) (now (reply .exit)) (now (table .exit)) ⌝ }
     {
         match act {

@@ -1,10 +1,17 @@
 -- `Link::byte` meets its contract: a fault hands everything back, else what was asked for is performed. Assumes nothing.
 use borrow.Author.Needs.{needs}
 use mathlib.Core.Path.{refl, sym, _∙_}
-use Rattle.rkc.proofs.Cases.{leads-by, byte-none, call-none, received-fault, received-act}
+use Rattle.rkc.specs.Outcome.{ByteCall, byteFault}
+use Rattle.rkc.proofs.Cases.{does-by, step-none, byte-none, received-fault, received-act}
 use Rattle.rkc.proofs.Limits.{act-limited}
 use Rattle.rkc.proofs.Link.byte.Statement.{statement}
 use Rattle.rkc.proofs.Link.byte.Tie as tie
+
+-- what the call is handed
+abbrev called : tie.Start → ByteCall
+called s =
+    let a = s .args in
+    record { link = a .self; table = a .table .now; buffer = a .reply .now; address = a .address; structure = a .structure; time = a .time; byte = a .byte }
 
 byte-fault-requires : tie.Need-byte-fault-requires
 byte-fault-requires c κs = search needs
@@ -13,8 +20,9 @@ same-length : tie.Need-same-length
 same-length c = search needs
 
 returns : tie.Need-returns
+unfolding byteFault
 returns c =
-    leads-by (received-fault _ _ _ _ _ _ _ (c .before .byte-fault .ensures) (c .if1 .taken))
+    does-by (received-fault (called (c .before .before .before .before)) (c .before .byte-fault .ensures) (c .if1 .taken))
     (record { steps = record { back = refl; sent = refl }; left = refl })
 
 heard-requires : tie.Need-heard-requires
@@ -30,8 +38,11 @@ decide-requires : tie.Need-decide-requires
 decide-requires c κs = search needs
 
 perform-requires : tie.Need-perform-requires
+unfolding byteFault
 perform-requires c κs =
-    let fine = call-none _ _ _ (byte-none _ _ _ _ _ (sym (c .before .before .before .before .before .before .byte-fault .ensures) ∙ c .before .before .before .before .before .if1 .left) .1) in
+    let looked = c .before .before .before .before .before .before in
+    let none = sym (looked .byte-fault .ensures) ∙ c .before .before .before .before .before .if1 .left in
+    let fine = step-none _ _ _ (byte-none (called (looked .before .before .before)) none .1) in
     (fine .0, act-limited _ (fine .2) _ _ (c .before .before .decide .ensures))
 
 same-length-2 : tie.Need-same-length-2
@@ -41,8 +52,12 @@ same-length-3 : tie.Need-same-length-3
 same-length-3 c = search needs
 
 returns-2 : tie.Need-returns-2
+unfolding byteFault
 returns-2 c =
-    leads-by (received-act _ _ _ _ _ _ _ (c .before .before .before .before .before .before .before .before .before .before .byte-fault .ensures) (c .before .before .before .before .before .before .before .before .before .if1 .left) (c .before .before .before .before .before .before .before .heard .ensures) (c .before .before .before .before .before .before .decide .ensures))
+    let decided = c .before .before .before .before .before .before in
+    let looked = decided .before .before .before .before in
+    does-by
+    (received-act (called (looked .before .before .before)) (looked .byte-fault .ensures) (decided .before .before .before .if1 .left) (decided .before .heard .ensures) (decided .decide .ensures))
     (c .before .before .before .perform .ensures)
 
 pub byte-spec : {M : Type 1} → statement M

@@ -1,9 +1,8 @@
 -- `Link::judge` meets its contract: ACK with the item stored, or NAK. Assumes nothing.
 use borrow.Author.Needs.{needs}
-use mathlib.Core.Path.{refl, sym, ap, _∙_}
+use mathlib.Core.Path.{refl, ap, _∙_}
 use Rattle.table.specs.Table.{stored}
-use Rattle.rkc.specs.Outcome.{judged}
-use Rattle.rkc.proofs.Cases.{leads-by}
+use Rattle.rkc.proofs.Cases.{does-by, judged-stored, judged-refused}
 use Rattle.rkc.proofs.Link.judge.Statement.{statement}
 use Rattle.rkc.proofs.Link.judge.Tie as tie
 
@@ -40,7 +39,7 @@ same-length-2 c = search needs
 returns : tie.Need-returns
 returns c =
     let s = c .before .before .before .before .before .before .before .before .before .before .before .before .before .before .args in
-    leads-by (ap (judged (s .structure) (s .table .now)) (sym (c .before .before .before .before .before .before .before .before .before .before .before .judge .ensures) ∙ c .before .before .before .before .before .before .before .before .before .i .given .1))
+    does-by (judged-stored _ _ (s .self) _ (c .before .before .before .before .before .before .before .before .before .before .before .judge .ensures) (c .before .before .before .before .before .before .before .before .before .i .given .1))
     (record {
       steps = record { back = c .before .before .send-one .ensures .back ∙ rw (c .before .before .before .in-phase .ensures); sent = c .before .before .send-one .ensures .sent };
       left = c .before .before .before .before .before .before .store .ensures ∙ ap (stored (s .table .now) (c .before .before .before .before .before .before .before .before .before .i .given .0 .0)) (search needs);
@@ -51,8 +50,8 @@ same-length-3 c = search needs
 
 returns-2 : tie.Need-returns-2
 returns-2 c =
-    let s = c .before .before .before .before .before .before .before .before .before .before .before .args in
-    leads-by (ap (judged (s .structure) (s .table .now)) (sym (c .before .before .before .before .before .before .before .before .judge .ensures) ∙ c .before .before .before .before .before .before .number .given .1))
+    let told = c .before .before .before .before .before .before in
+    does-by (judged-refused _ _ (told .before .before .before .before .before .args .self) _ (told .before .before .judge .ensures) (told .number .given .1))
     (record {
       steps = record { back = c .before .before .send-one2 .ensures .back ∙ rw (c .before .before .before .in-phase2 .ensures); sent = c .before .before .send-one2 .ensures .sent };
       left = refl;

@@ -1,10 +1,10 @@
 -- `Link::perform` meets its contract: each act by its own case of `performed`. Assumes nothing.
 use borrow.Author.Needs.{needs}
-use mathlib.Core.Path.{refl, ap, _∙_}
+use mathlib.Core.Path.{refl, _∙_}
 use native.Mathlib.Omega.{arith}
-use Rattle.rkc.specs.Outcome.{judged, performed}
-use Rattle.rkc.proofs.Used.{verdict-up-to}
-use Rattle.rkc.proofs.Cases.{leads-by, done-by}
+use Rattle.rkc.specs.Outcome.{performed}
+use Rattle.rkc.proofs.Used.{judged-up-to}
+use Rattle.rkc.proofs.Cases.{does-by, done-by}
 use Rattle.rkc.proofs.Link.perform.Statement.{statement}
 use Rattle.rkc.proofs.Link.perform.Tie as tie
 
@@ -88,31 +88,31 @@ judge-requires c κs = search needs
 returns : tie.Need-returns
 unfolding performed
 returns c =
-    leads-by (done-by _ _ _ _ (c .before .before .before .act .given .1))
+    does-by (done-by _ _ _ _ (c .before .before .before .act .given .1))
     (record { steps = record { back = c .silent .ensures ∙ rw (c .before .in-phase .ensures); sent = refl }; left = refl })
 
 returns-2 : tie.Need-returns-2
 unfolding performed
 returns-2 c =
-    leads-by (done-by _ _ _ _ (c .before .before .before .act2 .given .1))
+    does-by (done-by _ _ _ _ (c .before .before .before .act2 .given .1))
     (record { steps = record { back = c .silent2 .ensures ∙ rw (c .before .holding-one .ensures); sent = refl }; left = refl })
 
 returns-3 : tie.Need-returns-3
 unfolding performed
 returns-3 c =
-    leads-by (done-by _ _ _ _ (c .before .before .before .act3 .given .1))
+    does-by (done-by _ _ _ _ (c .before .before .before .act3 .given .1))
     (record { steps = record { back = c .silent3 .ensures ∙ rw (c .before .holding-two .ensures); sent = refl }; left = refl })
 
 returns-4 : tie.Need-returns-4
 unfolding performed
 returns-4 c =
-    leads-by (done-by _ _ _ _ (c .before .before .before .act4 .given .1))
+    does-by (done-by _ _ _ _ (c .before .before .before .act4 .given .1))
     (record { steps = record { back = c .silent4 .ensures ∙ rw (c .before .with-more .ensures); sent = refl }; left = refl })
 
 returns-5 : tie.Need-returns-5
 unfolding performed
 returns-5 c =
-    leads-by (done-by _ _ _ _ (c .before .before .enum-told .given .1))
+    does-by (done-by _ _ _ _ (c .before .before .enum-told .given .1))
     (record { steps = record { back = c .silent5 .ensures ∙ rw (c .before .with-end .ensures); sent = refl }; left = refl })
 
 same-length : tie.Need-same-length
@@ -121,7 +121,7 @@ same-length c = search needs
 returns-6 : tie.Need-returns-6
 unfolding performed
 returns-6 c =
-    leads-by (done-by _ _ _ _ (c .before .before .before .before .before .act5 .given .1)) (record { steps = c .before .before .quit .ensures; left = refl })
+    does-by (done-by _ _ _ _ (c .before .before .before .before .before .act5 .given .1)) (record { steps = c .before .before .quit .ensures; left = refl })
 
 same-length-2 : tie.Need-same-length-2
 same-length-2 c = search needs
@@ -132,7 +132,7 @@ same-length-3 c = search needs
 returns-7 : tie.Need-returns-7
 unfolding performed
 returns-7 c =
-    leads-by (done-by _ _ _ _ (c .before .before .before .before .before .before .act6 .given .1)) (record { steps = c .before .before .poll .ensures; left = refl })
+    does-by (done-by _ _ _ _ (c .before .before .before .before .before .before .act6 .given .1)) (record { steps = c .before .before .poll .ensures; left = refl })
 
 same-length-4 : tie.Need-same-length-4
 same-length-4 c = search needs
@@ -143,7 +143,7 @@ same-length-5 c = search needs
 returns-8 : tie.Need-returns-8
 unfolding performed
 returns-8 c =
-    leads-by (done-by _ _ _ _ (c .before .before .before .before .before .before .act7 .given .1)) (record { steps = c .before .before .send-item .ensures; left = refl })
+    does-by (done-by _ _ _ _ (c .before .before .before .before .before .before .act7 .given .1)) (record { steps = c .before .before .send-item .ensures; left = refl })
 
 same-length-6 : tie.Need-same-length-6
 same-length-6 c = search needs
@@ -154,8 +154,8 @@ same-length-7 c = search needs
 returns-9 : tie.Need-returns-9
 unfolding performed
 returns-9 c =
-    leads-by (done-by _ _ _ _ (c .before .before .before .before .before .before .before .act8 .given .1))
-    (leads-by (ap (judged _ _) (verdict-up-to _ _ _ _ _)) (c .before .before .before .judge .ensures))
+    does-by (done-by _ _ _ _ (c .before .before .before .before .before .before .before .act8 .given .1))
+    (does-by (judged-up-to _ _ (c .before .before .before .before .before .before .before .before .before .before .args .self) _) (c .before .before .before .judge .ensures))
 
 pub perform-spec : {M : Type 1} → statement M
 perform-spec =

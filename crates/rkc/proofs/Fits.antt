@@ -1,0 +1,47 @@
+-- An item of a good table is always sent: its answer fits six characters, so that 46 is not met.
+-- Assumes nothing.
+use mathlib.Core.Path.{_≡_, refl}
+use mathlib.Core.Bool.{true}
+use mathlib.Core.List.{List}
+use Prim.Native.Nat.{ℕ, _<_}
+use lib.Dec.{eqb}
+use lib.IntN.{ℤ, pos}
+use lib.Signed.{leZ}
+use Rattle.numbers.specs.Numbers.{none}
+use Rattle.numbers.proofs.Tests.{both, chosen}
+use Rattle.items.specs.ItemList.{Item, items, itemAt, inRange}
+use Rattle.items.proofs.Lists.{passes, passes-at}
+use Rattle.table.specs.Table.{goodTable, entry, M1, AA, AB, A1, A2, alarm, answered}
+use Rattle.table.proofs.Laws.{good-entry}
+use Rattle.text.specs.Writing.{fits}
+use Rattle.text.proofs.Limits.{between-fits}
+use Rattle.text.proofs.Texts.{fitting}
+use Rattle.block.proofs.Laws.{few-decimals}
+use Rattle.rkc.specs.Outcome.{itemSent}
+
+module _ (i : ℕ) (h : i < items) where
+  abbrev FitsSix : ℤ → Type 0
+  FitsSix v = fits 6 (itemAt i .decimals) v ≡ true
+
+  -- a number of each line of the list, by a test that the whole list passes
+  line-fits : (f : Item → ℤ) → passes (λ (k : ℕ). fits 6 (itemAt k .decimals) (f (itemAt k))) items ≡ true → FitsSix (f (itemAt i))
+  line-fits f e = passes-at (λ (k : ℕ). fits 6 (itemAt k .decimals) (f (itemAt k))) items i e h
+
+  state-fits : (t : List ℤ) (limit : ℕ) → FitsSix (alarm t limit)
+  unfolding alarm fits
+  state-fits t limit = chosen FitsSix (leZ (entry t limit) (entry t M1)) (λ _. line-fits (λ x. pos 1) refl) (λ _. line-fits (λ x. pos 0) refl)
+
+  entry-fits : (t : List ℤ) → goodTable t ≡ true → FitsSix (entry t i)
+  unfolding inRange fits
+  entry-fits t g =
+      let r = both (leZ (itemAt i .low) (entry t i)) (leZ (entry t i) (itemAt i .high)) (good-entry t i g h) in
+      between-fits 6 (itemAt i .decimals) (itemAt i .low) (itemAt i .high) (entry t i) (r .0) (r .1) (line-fits (λ x. x .low) refl) (line-fits (λ x. x .high) refl)
+
+  answered-fits : (t : List ℤ) → goodTable t ≡ true → FitsSix (answered t i)
+  unfolding answered
+  answered-fits t g =
+      chosen FitsSix (eqb i AA) (λ _. state-fits t A1) (λ _. chosen FitsSix (eqb i AB) (λ _. state-fits t A2) (λ _. entry-fits t g))
+
+  pub always-sent : (structure time : ℕ) (t : List ℤ) → goodTable t ≡ true → itemSent structure time t i .number ≡ none
+  unfolding itemSent
+  always-sent structure time t g = rw (fitting 6 (itemAt i .decimals) (answered t i) (few-decimals i) (answered-fits t g))
