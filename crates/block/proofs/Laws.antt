@@ -4,15 +4,14 @@
 use mathlib.Core.Path.{_≡_, refl, sym, ap, ap₂, _∙_}
 use mathlib.Core.Bool.{Bool, true, false, not, _&&_, _||_}
 use mathlib.Core.List.{List, [], _∷_}
-use Prim.Native.Nat.{ℕ, zero, suc, _<_, _≤_}
+use Prim.Native.Nat.{ℕ, _<_, _≤_}
 use native.Mathlib.Omega.{arith}
 use borrow.Author.Tests.{leb-true, ltb-true, ltb-false}
 use lib.Dec.{leb, ltb, eqb}
 use lib.IntN.{ℤ}
-use lib.ListN.{getD}
 use Rattle.numbers.specs.Numbers.{none, unless, firstMet}
 use Rattle.numbers.proofs.Tests.{both}
-use Rattle.numbers.proofs.Order.{none-met, each, test-held}
+use Rattle.numbers.proofs.Order.{each, none-at, test-held}
 use Rattle.numbers.proofs.Single.{single}
 use Rattle.line.specs.Line.{isLineError}
 use Rattle.items.specs.ItemList.{items, itemAt, inRange}
@@ -42,13 +41,7 @@ few-decimals i = by (ltb i items) refl
     by true e = leb-true _ _ (passes-at (λ (k : ℕ). leb (itemAt k .decimals) mostDecimals) items i refl (ltb-true i items e))
     by false e = rw (line-past i (ltb-false i items e)) (omega arith)
 
--- ---- numbers by their places
-
--- where none is met, none at any place is
-none-at : (ns : List ℕ) (k : ℕ) → firstMet ns ≡ none → getD ns k none ≡ none
-none-at [] k e = refl
-none-at (n ∷ ns) zero e = none-met n ns e .0
-none-at (n ∷ ns) (suc k) e = none-at ns k (none-met n ns e .1)
+-- ---- the first of several numbers
 
 -- what holds of each, and of none, holds of the first that is met
 infixr 40 _then_
