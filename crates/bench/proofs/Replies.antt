@@ -7,19 +7,16 @@ use native.Mathlib.Omega.{arith}
 use lib.IntN.{ℤ}
 use lib.ListN.{length}
 use lib.Seq.{length-sets}
-use Rattle.rkc.specs.declared.Link.{Link}
 use Rattle.rkc.specs.declared.Stepped.{Stepped}
-use Rattle.rkc.specs.Outcome.{received}
+use Rattle.rkc.specs.Outcome.{ByteCall, received}
 use Rattle.rkc.specs.Promise.{Leads}
-use Rattle.rkc.proofs.Replies.{received-short}
+use Rattle.rkc.proofs.EachReply.{received-short}
 
 -- what was lent at least 11 bytes still holds the whole reply
-module _ (l : Link) (t : List ℤ) (address structure time byte : ℕ) {r : Stepped} {before after : List ℕ} {table : List ℤ} where
-  pub within-buffer : Leads (received l t (length before) address structure time byte) r before after table → 11 ≤ length before
-      → r .len ≤ length after
-  within-buffer h room =
-      let o = received l t (length before) address structure time byte in
-      let reply = received-short structure l t (length before) address time byte in
-      let len : r .len ≡ length (o .step .reply) = ap (λ (s : Stepped). s .len) (h .steps .back) in
-      let same : length after ≡ length before = ap length (h .steps .sent) ∙ length-sets before 0 (o .step .reply) in
-      omega arith
+pub within-buffer : (call : ByteCall) {r : Stepped} {after : List ℕ} {table : List ℤ} → Leads call r after table → 11 ≤ length (call .buffer)
+    → r .len ≤ length after
+within-buffer call {r} {after} h room =
+    let short = received-short call in
+    let len : r .len ≡ length (received call .step .reply) = ap (λ (s : Stepped). s .len) (h .steps .back) in
+    let same : length after ≡ length (call .buffer) = ap length (h .steps .sent) ∙ length-sets (call .buffer) 0 (received call .step .reply) in
+    omega arith

@@ -9,8 +9,8 @@ use lib.IntN.{ℤ}
 use lib.ListN.{length}
 use Rattle.rkc.specs.declared.Link.{Link}
 use Rattle.rkc.specs.declared.Stepped.{Stepped}
-use Rattle.rkc.specs.Outcome.{Step, received, idled}
-use Rattle.rkc.specs.Promise.{Steps, Leads}
+use Rattle.rkc.specs.Outcome.{Step, ByteCall, received, IdleCall, idled}
+use Rattle.rkc.specs.Promise.{Steps, Leads, Idles}
 use Rattle.rkc.proofs.EachReply.{received-short, idled-short}
 use Rattle.state.specs.State.{stateBytes, unpacked}
 use Rattle.panel.specs.Calls.{isCallFault}
@@ -28,28 +28,28 @@ step-left : {step : Step} {r : Stepped} {n : ℕ} {s held before after : List �
     → StepLeft step n s held before after
 step-left p h = record { given = h .given ∙ rw (p .back); holds = h .holds ∙ rw (p .back); sent = p .sent }
 
-module _ (s : List ℕ) (t : List ℤ) (buffer address structure time byte : ℕ) {l : Link} {r : Stepped} {before after : List ℕ} {left : List ℤ}
-    (e : l ≡ unpacked s) (p : Leads (received l t buffer address structure time byte) r before after left) where
-  leads : Leads (received (unpacked s) t buffer address structure time byte) r before after left
-  leads = subst (λ (k : Link). Leads (received k t buffer address structure time byte) r before after left) e p
+-- a call on a state, made of the state that the bytes hold
+module _ (s : List ℕ) (of : Link → ByteCall) (on : of (unpacked s) .link ≡ unpacked s) {l : Link} {r : Stepped} {after : List ℕ} {left : List ℤ}
+    (e : l ≡ unpacked s) (p : Leads (of l) r after left) where
+  leads : Leads (of (unpacked s)) r after left
+  leads = subst (λ (k : Link). Leads (of k) r after left) e p
 
   pub byte-holdable : Holdable r s
   byte-holdable =
-      holdable s (received (unpacked s) t buffer address structure time byte .step) r
-      (received-short structure (unpacked s) t buffer address time byte) (received-whole s t buffer address structure time byte) (leads .steps .back)
+      holdable s (received (of (unpacked s)) .step) r (received-short (of (unpacked s))) (received-whole s (of (unpacked s)) on) (leads .steps .back)
 
   pub byte-left : {n : ℕ} {held : List ℕ} → Held r n s held
-      → ByteLeft (received (unpacked s) t buffer address structure time byte) n s held before after left
+      → ByteLeft (received (of (unpacked s))) n s held (of (unpacked s) .buffer) after left
   byte-left h = record { step = step-left (leads .steps) h; left = leads .left }
 
-module _ (s : List ℕ) (buffer structure time : ℕ) {l : Link} {r : Stepped} {before after : List ℕ}
-    (e : l ≡ unpacked s) (p : Steps (idled l buffer structure time) r before after) where
-  steps : Steps (idled (unpacked s) buffer structure time) r before after
-  steps = subst (λ (k : Link). Steps (idled k buffer structure time) r before after) e p
+module _ (s : List ℕ) (of : Link → IdleCall) (on : of (unpacked s) .link ≡ unpacked s) {l : Link} {r : Stepped} {after : List ℕ}
+    (e : l ≡ unpacked s) (p : Idles (of l) r after) where
+  idles : Idles (of (unpacked s)) r after
+  idles = subst (λ (k : Link). Idles (of k) r after) e p
 
   pub idle-holdable : Holdable r s
   idle-holdable =
-      holdable s (idled (unpacked s) buffer structure time) r (idled-short structure (unpacked s) buffer time) (idled-whole s buffer structure time) (steps .back)
+      holdable s (idled (of (unpacked s))) r (idled-short (of (unpacked s))) (idled-whole s (of (unpacked s)) on) (idles .back)
 
-  pub idle-left : {n : ℕ} {held : List ℕ} → Held r n s held → StepLeft (idled (unpacked s) buffer structure time) n s held before after
-  idle-left h = step-left steps h
+  pub idle-left : {n : ℕ} {held : List ℕ} → Held r n s held → StepLeft (idled (of (unpacked s))) n s held (of (unpacked s) .buffer) after
+  idle-left h = step-left idles h

@@ -11,8 +11,7 @@ use Rattle.table.specs.Table.{startNumber, startTable, putNumber, putTable}
 use Rattle.numbers.proofs.Single.{lent-single}
 use Rattle.text.specs.Numbers.{width}
 use Rattle.text.specs.Reading.{readNumber, readValue}
-use Rattle.rkc.specs.Outcome.{Step, received, idled}
-use Rattle.state.specs.State.{unpacked}
+use Rattle.rkc.specs.Outcome.{Step, Outcome}
 use Rattle.panel.specs.Calls.{linkStartNumber, linkStart, textNumber, textLeft}
 use Rattle.panel.specs.Promise.{LentBytes, StepLeft, ByteLeft}
 use Rattle.panel.proofs.Frames.{result-single}
@@ -33,18 +32,14 @@ pub start-link-single : (s : List ℕ) {r q : ℕ} {u w : List ℕ} → LentByte
     → LentBytes (linkStartNumber s) (linkStart s) q w → (r ≡ q) × (u ≡ w)
 start-link-single s = lent-bytes-single
 
-pub byte-single : (s : List ℕ) (t : List ℤ) (reply : List ℕ) (address structure time byte : ℕ) {r q : ℕ} {held kept after other : List ℕ} {u w : List ℤ}
-    → ByteLeft (received (unpacked s) t (length reply) address structure time byte) r s held reply after u
-    → ByteLeft (received (unpacked s) t (length reply) address structure time byte) q s kept reply other w
-    → (r ≡ q) × (held ≡ kept) × (after ≡ other) × (u ≡ w)
-byte-single s t reply address structure time byte x y =
+pub byte-single : (o : Outcome) (s reply : List ℕ) {r q : ℕ} {held kept after other : List ℕ} {u w : List ℤ}
+    → ByteLeft o r s held reply after u → ByteLeft o q s kept reply other w → (r ≡ q) × (held ≡ kept) × (after ≡ other) × (u ≡ w)
+byte-single o s reply x y =
     let p = step-left-single (x .step) (y .step) in (p .0, p .1, p .2, single (x .left) (y .left))
 
-pub idle-single : (s reply : List ℕ) (structure time : ℕ) {r q : ℕ} {held kept after other : List ℕ}
-    → StepLeft (idled (unpacked s) (length reply) structure time) r s held reply after
-    → StepLeft (idled (unpacked s) (length reply) structure time) q s kept reply other
-    → (r ≡ q) × (held ≡ kept) × (after ≡ other)
-idle-single s reply structure time = step-left-single
+pub idle-single : (step : Step) (s reply : List ℕ) {r q : ℕ} {held kept after other : List ℕ}
+    → StepLeft step r s held reply after → StepLeft step q s kept reply other → (r ≡ q) × (held ≡ kept) × (after ≡ other)
+idle-single step s reply = step-left-single
 
 pub rtu : OneOutcome panel.vb_rtu.ended panel.vb_rtu.Reads.Asked panel.vb_rtu.Reads.Post
 rtu =

@@ -85,7 +85,15 @@ pub extern "C" fn vb_byte(
     time: u32,
     byte: u8,
 ) -> u32
-    ensures { λ r. ⌜ ByteLeft (received (unpacked (now (state .entry))) (now (table .entry)) (length (now (reply .entry))) address structure time byte) r (now (state .entry)) (now (state .exit)) (now (reply .entry)) (now (reply .exit)) (now (table .exit)) ⌝ }
+    ensures { λ r. ⌜ ByteLeft (received (record {
+      link = unpacked (now (state .entry));
+      table = now (table .entry);
+      buffer = now (reply .entry);
+      address = address;
+      structure = structure;
+      time = time;
+      byte = byte;
+    })) r (now (state .entry)) (now (state .exit)) (now (reply .entry)) (now (reply .exit)) (now (table .exit)) ⌝ }
 {
     let link = state::unpack(&state[..]);
     let stepped = link.byte(table, reply, address, structure, time, byte);
@@ -95,7 +103,12 @@ pub extern "C" fn vb_byte(
 // No byte of the RKC line came.
 #[no_mangle]
 pub extern "C" fn vb_idle(state: &mut [u8], reply: &mut [u8], structure: u8, time: u32) -> u32
-    ensures { λ r. ⌜ StepLeft (idled (unpacked (now (state .entry))) (length (now (reply .entry))) structure time) r (now (state .entry)) (now (state .exit)) (now (reply .entry)) (now (reply .exit)) ⌝ }
+    ensures { λ r. ⌜ StepLeft (idled (record {
+      link = unpacked (now (state .entry));
+      buffer = now (reply .entry);
+      structure = structure;
+      time = time;
+    })) r (now (state .entry)) (now (state .exit)) (now (reply .entry)) (now (reply .exit)) ⌝ }
 {
     let link = state::unpack(&state[..]);
     let stepped = link.idle(reply, structure, time);

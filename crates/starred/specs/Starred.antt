@@ -105,10 +105,14 @@ table =
 unfoldable pub start : Outcome
 start = record { step = silent (inPhase rest); table = startValues }
 
+-- a reply buffer
+unfoldable pub lent : List ℕ
+lent = replicate leastBuffer 0
+
 -- bytes come one after another, at address 1, in structure 0, at time 0
 unfoldable pub after : Outcome → List ℕ → Outcome
 after o [] = o
-after o (b ∷ bytes) = after (received (o .step .link) (o .table) leastBuffer 1 0 0 b) bytes
+after o (b ∷ bytes) = after (received (record { link = o .step .link; table = o .table; buffer = lent; address = 1; structure = 0; time = 0; byte = b })) bytes
 
 -- the bytes of a block with this text: EOT, the address, STX, the text, ETX, the BCC
 unfoldable pub blockBytes : List ℕ → List ℕ

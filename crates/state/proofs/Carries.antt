@@ -22,13 +22,11 @@ use Rattle.text.specs.Writing.{written}
 use Rattle.phases.specs.Phases.{oneCharacter, twoCharacters, waiting}
 use Rattle.phases.specs.declared.Act.{Act}
 use Rattle.phases.specs.declared.Act.the-variants.{Go, First, Both, More, Ended, Quit, Poll, Send, Judge}
-use Rattle.block.specs.Block.{verdict}
-use Rattle.block.specs.declared.Verdict.{Verdict}
-use Rattle.block.specs.declared.Verdict.the-variants.{Store, Refuse}
+use Rattle.block.specs.Block.{blockNumber}
 use Rattle.rkc.specs.declared.Link.{Link}
 use Rattle.rkc.specs.State.{inPhase, holdingOne, holdingTwo, waitingOn, block, inBlock, used, withMore, withEnd}
-use Rattle.rkc.specs.Outcome.{Step, Outcome, itemSent, polled, judged, performed, byteFault, received}
-use Rattle.rkc.specs.Outcome.{elapsed, patience, idleFault, idled}
+use Rattle.rkc.specs.Outcome.{Step, Outcome, itemSent, polled, judged, performed, ByteCall, byteFault, received}
+use Rattle.rkc.specs.Outcome.{IdleCall, elapsed, patience, idleFault, idled}
 use Rattle.state.specs.State.{stateBytes, fields, unknownPhase, unpacked, packed}
 use Rattle.state.proofs.Parts.{part-elements}
 use Rattle.state.proofs.Packing.{unpacked-packed}
@@ -89,9 +87,11 @@ module _ (structure time : ℕ) (t : List ℤ) (h : time < 2 ^ 32) where
   polled-whole (At i) = item-whole i
   polled-whole Nothing = in-phase-whole _
 
-  judged-whole : (v : Verdict) → LeavesWhole (judged structure t v .step)
-  judged-whole (Store i v) = in-phase-whole _
-  judged-whole (Refuse n) = in-phase-whole _
+  judged-whole : (l : Link) (c : ℕ) → LeavesWhole (judged structure t l c .step)
+  judged-whole l c =
+      chosen (λ (o : Outcome). LeavesWhole (o .step)) (eqb (blockNumber (l .mark) (l .bcc) (l .count) (l .kept) c) none)
+      (λ _. in-phase-whole _)
+      (λ _. in-phase-whole _)
 
   performed-whole : (l : Link) (x : Act) → Whole l → LeavesWhole (performed l t structure time x .step)
   unfolding performed
@@ -103,26 +103,25 @@ module _ (structure time : ℕ) (t : List ℤ) (h : time < 2 ^ 32) where
   performed-whole l (Quit number) w = in-phase-whole _
   performed-whole l (Poll a b) w = polled-whole (found a b)
   performed-whole l (Send item) w = item-whole (item - 1)
-  performed-whole l (Judge c) w = judged-whole (verdict (l .mark) (l .bcc) (l .count) (l .kept) c)
+  performed-whole l (Judge c) w = judged-whole l c
 
 -- ---- a call on a whole state leaves a whole one
 
-module _ (l : Link) (w : Whole l) where
-  pub whole-after-byte : (t : List ℤ) (buffer address structure time byte : ℕ) → time < 2 ^ 32
-      → Whole (received l t buffer address structure time byte .step .link)
-  unfolding received
-  whole-after-byte t buffer address structure time byte h =
-      chosen (λ (o : Outcome). LeavesWhole (o .step)) (eqb (byteFault l t buffer address structure) none)
-      (λ _. performed-whole structure time t h (used l) _ (used-whole l w)) (λ _. w)
+pub whole-after-byte : (call : ByteCall) → Whole (call .link) → call .time < 2 ^ 32 → Whole (received call .step .link)
+unfolding received
+whole-after-byte call w h =
+    chosen (λ (o : Outcome). LeavesWhole (o .step)) (eqb (byteFault call) none)
+    (λ _. performed-whole (call .structure) (call .time) (call .table) h (used (call .link)) _ (used-whole (call .link) w))
+    (λ _. w)
 
-  pub whole-after-idle : (buffer structure time : ℕ) → Whole (idled l buffer structure time .link)
-  unfolding idled
-  whole-after-idle buffer structure time =
-      chosen LeavesWhole (eqb (idleFault l buffer structure) none)
-      (λ _. chosen LeavesWhole (eqb (used l .phase) waiting && leb patience (elapsed time (used l .time)))
-      (λ _. in-phase-whole _)
-      (λ _. used-whole l w))
-      (λ _. w)
+pub whole-after-idle : (call : IdleCall) → Whole (call .link) → Whole (idled call .link)
+unfolding idled
+whole-after-idle call w =
+    chosen LeavesWhole (eqb (idleFault call) none)
+    (λ _. chosen LeavesWhole (eqb (used (call .link) .phase) waiting && leb patience (elapsed (call .time) (used (call .link) .time)))
+    (λ _. in-phase-whole _)
+    (λ _. used-whole (call .link) w))
+    (λ _. w)
 
 -- ---- from one call to the next
 
@@ -141,17 +140,15 @@ module _ (s : List ℕ) (bytes : (i : ℕ) → getD s i 0 < 256) where
           }
       by false e = in-phase-whole _
 
-  -- of one received byte
-  pub byte-carries : (t : List ℤ) (buffer address structure time byte : ℕ) → time < 2 ^ 32
-      → unpacked (packed (received (unpacked s) t buffer address structure time byte .step .link))
-      ≡ received (unpacked s) t buffer address structure time byte .step .link
-  byte-carries t buffer address structure time byte h =
-      let w = whole-after-byte (unpacked s) held-whole t buffer address structure time byte h in
+  -- of one received byte, in a call on the state that the bytes hold
+  pub byte-carries : (call : ByteCall) → call .link ≡ unpacked s → call .time < 2 ^ 32
+      → unpacked (packed (received call .step .link)) ≡ received call .step .link
+  byte-carries call e h =
+      let w = whole-after-byte call (rw e held-whole) h in
       unpacked-packed _ (w .eight) (w .small)
 
   -- of an idle call, which leaves no time but the one it found
-  pub idle-carries : (buffer structure time : ℕ)
-      → unpacked (packed (idled (unpacked s) buffer structure time .link)) ≡ idled (unpacked s) buffer structure time .link
-  idle-carries buffer structure time =
-      let w = whole-after-idle (unpacked s) held-whole buffer structure time in
+  pub idle-carries : (call : IdleCall) → call .link ≡ unpacked s → unpacked (packed (idled call .link)) ≡ idled call .link
+  idle-carries call e =
+      let w = whole-after-idle call (rw e held-whole) in
       unpacked-packed _ (w .eight) (w .small)

@@ -14,10 +14,10 @@ byte-requires : tie.Need-byte-requires
 byte-requires c κs = search needs
 
 array-share-prefix-reply : tie.Need-array-share-prefix-reply
-array-share-prefix-reply c = within-buffer _ _ _ _ _ _ (c .before .before .byte .ensures) (omega arith)
+array-share-prefix-reply c = within-buffer _ (c .before .before .byte .ensures) (omega arith)
 
 slice-aggregate-write-all : tie.Need-slice-aggregate-write-all
-slice-aggregate-write-all c = sym (length-take-le _ _ (within-buffer _ _ _ _ _ _ (c .before .before .before .byte .ensures) (omega arith)))
+slice-aggregate-write-all c = sym (length-take-le _ _ (within-buffer _ (c .before .before .before .byte .ensures) (omega arith)))
 
 write-all-requires : tie.Need-write-all-requires
 write-all-requires c κs = search needs

@@ -1,8 +1,17 @@
 -- `panel::vb_byte` meets its contract: what the link's step promises, once its state is held. Assumes nothing.
 use borrow.Author.Needs.{needs}
+use mathlib.Core.Path.{refl}
+use Rattle.rkc.specs.declared.Link.{Link}
+use Rattle.rkc.specs.Outcome.{ByteCall}
 use Rattle.panel.proofs.Holding.{byte-holdable, byte-left}
 use Rattle.panel.proofs.vb_byte.Statement.{statement}
 use Rattle.panel.proofs.vb_byte.Tie as tie
+
+-- what the link's call is handed
+abbrev called : tie.Start → Link → ByteCall
+called s l =
+    let a = s .args in
+    record { link = l; table = a .table .now; buffer = a .reply .now; address = a .address; structure = a .structure; time = a .time; byte = a .byte }
 
 unpack-requires : tie.Need-unpack-requires
 unpack-requires c κs = search needs
@@ -12,7 +21,8 @@ byte-requires c κs = search needs
 
 hold-requires : tie.Need-hold-requires
 hold-requires c κs =
-    byte-holdable _ _ _ _ _ _ _ (c .before .before .before .before .before .before .before .unpack .ensures) (c .before .before .before .before .byte .ensures)
+    let unpacked = c .before .before .before .before .before .before .before in
+    byte-holdable _ (called (unpacked .before .before .before .before)) refl (unpacked .unpack .ensures) (c .before .before .before .before .byte .ensures)
 
 same-length : tie.Need-same-length
 same-length c = search needs
@@ -25,7 +35,8 @@ same-length-3 c = search needs
 
 returns : tie.Need-returns
 returns c =
-    byte-left _ _ _ _ _ _ _ (c .before .before .before .before .before .before .before .before .before .before .unpack .ensures) (c .before .before .before .before .before .before .before .byte .ensures) (c .before .before .hold .ensures)
+    let unpacked = c .before .before .before .before .before .before .before .before .before .before in
+    byte-left _ (called (unpacked .before .before .before .before)) refl (unpacked .unpack .ensures) (c .before .before .before .before .before .before .before .byte .ensures) (c .before .before .hold .ensures)
 
 pub vb-byte-spec : {M : Type 1} → statement M
 vb-byte-spec =
