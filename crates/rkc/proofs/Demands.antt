@@ -7,7 +7,6 @@ use mathlib.Core.Bool.{Bool, true, false, not, _&&_}
 use mathlib.Core.List.{List, [], _∷_, map}
 use Prim.Native.Nat.{ℕ, _≤_}
 use borrow.Author.Tests.{eq-eqb, eqb-true, eqb-false, not-true}
-use lib.Count.{ones}
 use lib.Dec.{eqb, leb}
 use lib.IntN.{ℤ}
 use lib.ListN.{length}
@@ -15,28 +14,26 @@ use lib.Seq.{length-sets}
 use lib.Signed.{leZ}
 use Rattle.numbers.specs.Numbers.{none, leastBuffer}
 use Rattle.numbers.proofs.Tests.{contrary, chosen}
-use Rattle.items.specs.ItemList.{itemAt, found, inRange}
+use Rattle.items.specs.ItemList.{itemAt, inRange}
 use Rattle.table.specs.Table as table
-use Rattle.table.specs.Table.{tableFault, goodTable, startValues, entry, stored}
+use Rattle.table.specs.Table.{tableFault, goodTable, entry, stored}
 use Rattle.table.proofs.Laws.{good-stored, stored-in-range, stored-read-only, answered-AA, answered-AB}
-use Rattle.line.specs.Line.{within, keeps, sent, heard, lastStructure}
+use Rattle.line.specs.Line.{within, sent, heard, lastStructure}
 use Rattle.line.proofs.Parity.{sent-keeps}
-use Rattle.text.specs.Reading.{readNumber, readValue}
 use Rattle.text.specs.Writing.{fits, text, writeNumber, accepted, written}
 use Rattle.phases.specs.Phases.{waiting}
-use Rattle.phases.specs.Decision.{decided}
 use Rattle.phases.specs.declared.Act.{Act}
 use Rattle.phases.specs.declared.Act.the-variants.{Go, First, Both, More, Ended, Quit, Poll, Send, Judge}
-use Rattle.block.specs.Block.{blockItem, blockValue, blockNumber}
+use Rattle.block.specs.Block.{blockNumber}
 use Rattle.block.proofs.Laws.{block-stores}
 use Rattle.rkc.specs.declared.Link.{Link}
-use Rattle.rkc.specs.State.{used, inLimits, withMore, withEnd}
-use Rattle.rkc.specs.Outcome.{Step, Outcome, keeping, silent, quit, noRoom, dataReply, itemSent, performed, asked, handedBack}
+use Rattle.rkc.specs.State.{used, inLimits}
+use Rattle.rkc.specs.Outcome.{Step, Outcome, keeping, silent, quit, dataReply, itemSent, judged, performed, asked, handedBack}
 use Rattle.rkc.specs.Outcome.{stepFault, ByteCall, goodSettings, byteFault, received, IdleCall, elapsed, patience, timedOut, idleFault, idled}
 use Rattle.rkc.specs.Promise.{Steps, Does}
-use Rattle.rkc.specs.Numbers.{oneOf, byteFaults, byteNumbers, byteExamples, idleFaults, idleNumbers, idleExamples}
-use Rattle.rkc.specs.Demands.{allKeep, nextByte, OfByte, nextIdle, OfIdle, OfNumbers, stateText, OfAlarms}
-use Rattle.rkc.proofs.Cases.{step-state, step-none, step-next, byte-none, received-fault, received-fine, idled-fault, idled-fine}
+use Rattle.rkc.specs.Numbers.{oneOf, byteNumbers, idleNumbers}
+use Rattle.rkc.specs.Demands.{allKeep, nextByte, OfByte, OfIdle, stateText, OfAlarms}
+use Rattle.rkc.proofs.Cases.{step-state, step-none, step-next, byte-none, received-fault, received-fine, idled-fault}
 use Rattle.rkc.proofs.Limits.{used-small, asked-limited, performed-limits, used-in-limits}
 use Rattle.rkc.proofs.EachReply.{received-reply, idled-reply}
 use Rattle.rkc.proofs.Given.{one-passes, byte-faults, idle-faults, act-numbers}
@@ -44,40 +41,38 @@ use Rattle.rkc.proofs.Given.{one-passes, byte-faults, idle-faults, act-
 -- ---- what an act leaves of the table
 
 module _ (l : Link) (t : List ℤ) (structure time : ℕ) where
-  -- it leaves the table, or stores a value in its range in a writable item
+  -- every act but the judging of a block keeps the table
+  kept-or-judged : (x : Act) (P : Outcome → Type 0) → ((s : Step) → P (keeping t s)) → ((c : ℕ) → P (judged structure t l c))
+      → P (performed l t structure time x)
+  unfolding performed
+  kept-or-judged (Go phase) P same block = same _
+  kept-or-judged (First a) P same block = same _
+  kept-or-judged (Both a b) P same block = same _
+  kept-or-judged (More c) P same block = same _
+  kept-or-judged Ended P same block = same _
+  kept-or-judged (Quit number) P same block = same _
+  kept-or-judged (Poll a b) P same block = same _
+  kept-or-judged (Send item) P same block = same _
+  kept-or-judged (Judge c) P same block = block c
+
+  -- and a block leaves it too, or stores a value in its range in a writable item
   leaves : (x : Act) (P : List ℤ → Type 0) → P t
       → ((i : ℕ) (v : ℤ) → itemAt i .writable ≡ true → inRange i v ≡ true → P (stored t i v))
       → P (performed l t structure time x .table)
-  unfolding performed
-  leaves (Go phase) P same new = same
-  leaves (First a) P same new = same
-  leaves (Both a b) P same new = same
-  leaves (More c) P same new = same
-  leaves Ended P same new = same
-  leaves (Quit number) P same new = same
-  leaves (Poll a b) P same new = same
-  leaves (Send item) P same new = same
-  leaves (Judge c) P same new =
-      chosen (λ (o : Outcome). P (o .table)) (eqb (blockNumber (l .mark) (l .bcc) (l .count) (l .kept) c) none)
+  leaves x P same new =
+      kept-or-judged x (λ (o : Outcome). P (o .table)) (λ s. same)
+      (λ c. chosen (λ (o : Outcome). P (o .table)) (eqb (blockNumber (l .mark) (l .bcc) (l .count) (l .kept) c) none)
       (λ e. let s = block-stores (l .mark) (l .bcc) (l .count) (l .kept) c (eqb-true _ _ e) in new _ _ (s .writable) (s .ranged))
-      (λ _. same)
+      (λ _. same))
 
-  -- where it gives a number it leaves the table
-  abbrev LeftIfMet : Outcome → Type 0
-  LeftIfMet o = (o .step .number ≡ none → ⊥) → o .table ≡ t
+  -- where a number is given the table stays
+  abbrev StaysIfMet : Outcome → Type 0
+  StaysIfMet o = (o .step .number ≡ none → ⊥) → o .table ≡ t
 
-  numbered-leaves : (x : Act) → LeftIfMet (performed l t structure time x)
-  unfolding performed
-  numbered-leaves (Go phase) = λ _. refl
-  numbered-leaves (First a) = λ _. refl
-  numbered-leaves (Both a b) = λ _. refl
-  numbered-leaves (More c) = λ _. refl
-  numbered-leaves Ended = λ _. refl
-  numbered-leaves (Quit number) = λ _. refl
-  numbered-leaves (Poll a b) = λ _. refl
-  numbered-leaves (Send item) = λ _. refl
-  numbered-leaves (Judge c) =
-      chosen LeftIfMet (eqb (blockNumber (l .mark) (l .bcc) (l .count) (l .kept) c) none) (λ _ h. absurd (h refl)) (λ _ _. refl)
+  numbered-stays : (x : Act) → StaysIfMet (performed l t structure time x)
+  numbered-stays x =
+      kept-or-judged x StaysIfMet (λ s _. refl)
+      (λ c. chosen StaysIfMet (eqb (blockNumber (l .mark) (l .bcc) (l .count) (l .kept) c) none) (λ _ h. absurd (h refl)) (λ _ _. refl))
 
 -- ---- what is sent
 
@@ -143,7 +138,7 @@ module _ (call : ByteCall) where
     otherNumbers = λ z. numbers z;
     noFaultNumber = λ z. not-true _ (one-passes (λ (n : ℕ). not (within 1 9 n)) byteNumbers (received call .step .number) refl (numbers z));
     alwaysRoom = λ z e. contrary (sym (rw e at (numbers z)));
-    numberLeavesTable = by-outcome (LeftIfMet (call .link) (call .table) (call .structure) (call .time)) (λ _ _. refl) (λ _. numbered-leaves (used (call .link)) (call .table) (call .structure) (call .time) _);
+    numberLeavesTable = by-outcome (StaysIfMet (call .link) (call .table) (call .structure) (call .time)) (λ _ _. refl) (λ _. numbered-stays (used (call .link)) (call .table) (call .structure) (call .time) _);
     staysOrInRange = λ j. of-table (λ (u : List ℤ). (entry u j ≡ entry (call .table) j) ⊎ (inRange j (entry u j) ≡ true)) (inl refl)
         (λ i v w r. stored-in-range (call .table) i j v r);
     readOnlyStays = λ j r. of-table (λ (u : List ℤ). entry u j ≡ entry (call .table) j) refl (λ i v w g. stored-read-only (call .table) i j v w r);
@@ -196,12 +191,6 @@ module _ (call : IdleCall) where
         rw (length-sets (call .buffer) 0 (idled call .reply)) (step-state _ _ (leb (call .structure) lastStructure) (f .0) (f .1) (sym (idle-after z)));
     keepsStructure = idled-reply (λ (r : List ℕ). allKeep (call .structure) r ≡ true) refl call (one-keeps (call .structure));
   }
-
--- ---- each number is given: the definitions compute
-
-pub numbers-given : OfNumbers
-unfolding ones found inRange tableFault startValues stored keeps heard sent readNumber readValue fits text writeNumber written decided blockItem blockValue blockNumber used inLimits withMore withEnd performed stepFault byteFault received idleFault idled byteExamples idleExamples
-numbers-given = record { byBytes = refl; byIdles = refl }
 
 -- ---- the alarm states on the line
 

@@ -1,4 +1,4 @@
--- The numbers that a call gives: the caller's faults, and what an act gives in a good table.
+-- The numbers that a call gives: the caller's faults, what an act gives in a good table, and that each of them is given.
 -- Assumes nothing.
 use mathlib.Core.Path.{_≡_, refl, sym, ap, _∙_}
 use mathlib.Core.Bool.{Bool, true, false, cond, _&&_, _||_}
@@ -14,18 +14,23 @@ use Rattle.numbers.proofs.Tests.{contrary, both, chosen}
 use Rattle.numbers.proofs.Order.{each}
 use Rattle.items.specs.declared.Found.{Found}
 use Rattle.items.specs.declared.Found.the-variants.{At, Nothing}
-use Rattle.items.specs.ItemList.{items, itemList, found}
+use Rattle.items.specs.ItemList.{items, itemList, found, inRange}
 use Rattle.items.proofs.Lists.{passes-at}
 use Rattle.items.proofs.Lookup.{found-place}
-use Rattle.table.specs.Table.{allInRange, tableFault, goodTable}
+use Rattle.table.specs.Table.{allInRange, tableFault, goodTable, startValues}
+use Rattle.line.specs.Line.{keeps, heard}
+use Rattle.text.specs.Reading.{readNumber, readValue}
+use Rattle.phases.specs.Decision.{decided}
 use Rattle.phases.specs.Limits.{Limited}
 use Rattle.phases.specs.declared.Act.{Act}
-use Rattle.block.specs.Block.{lineError, outOfRange, blockNumber}
+use Rattle.block.specs.Block.{lineError, outOfRange, blockItem, blockValue, blockNumber}
 use Rattle.block.proofs.Laws.{Refusing, block-refuses}
 use Rattle.rkc.specs.declared.Link.{Link}
-use Rattle.rkc.specs.State.{inLimits}
-use Rattle.rkc.specs.Outcome.{Outcome, polled, judged, performed, asked, badState, stepFault, goodSettings, ByteCall, byteFault, IdleCall, idleFault}
-use Rattle.rkc.specs.Numbers.{oneOf, byteFaults, byteNumbers, idleFaults}
+use Rattle.rkc.specs.State.{used, inLimits}
+use Rattle.rkc.specs.Outcome.{Outcome, polled, judged, performed, asked, badState}
+use Rattle.rkc.specs.Outcome.{stepFault, goodSettings, ByteCall, byteFault, received, IdleCall, idleFault, idled}
+use Rattle.rkc.specs.Numbers.{oneOf, byteFaults, byteNumbers, byteExamples, idleFaults, idleExamples}
+use Rattle.rkc.specs.Demands.{OfNumbers}
 use Rattle.rkc.proofs.Acts.{every-act}
 use Rattle.rkc.proofs.Fits.{always-sent}
 
@@ -114,3 +119,9 @@ module _ (l : Link) (t : List ℤ) (good : goodTable t ≡ true) (structure time
       every-act Numbered (λ p _. refl) (λ a _. refl) (λ a b _. refl) (λ a b _. polled-numbers a b (found a b) refl)
       (λ item h. rw (always-sent (item - 1) (omega (arith, h .0, h .1)) structure time t good)) (λ _. refl) (λ _. refl) (λ _. refl)
       (l .phase) _ _ (l .item) address c (λ c _. refl) (λ _. refl) (λ c _. judged-numbers c)
+
+-- ---- each number is given: the definitions compute
+
+pub numbers-given : OfNumbers
+unfolding found inRange tableFault startValues keeps heard readNumber readValue decided blockItem blockValue blockNumber used inLimits performed stepFault byteFault received idleFault idled byteExamples idleExamples
+numbers-given = record { byBytes = refl; byIdles = refl }
