@@ -1,12 +1,12 @@
 -- What the functions of the C face give back and leave, where that is not a definition of a crate below as it stands.
 use mathlib.Core.Bool.{Bool, cond, _&&_}
-use mathlib.Core.List.{List}
+use mathlib.Core.List.{List, [], _∷_}
 use Prim.Native.Nat.{ℕ, _+_, _*_, _/_, _%_}
 use lib.Dec.{leb}
 use lib.IntN.{ℤ}
 use lib.ListN.{length}
 use lib.Seq.{sets}
-use Rattle.numbers.specs.Numbers.{none, shortBuffer}
+use Rattle.numbers.specs.Numbers.{unless, firstMet, shortBuffer}
 use Rattle.table.specs.Table.{wrongLength}
 use Rattle.text.specs.Numbers.{width}
 use Rattle.text.specs.Writing.{written}
@@ -36,7 +36,7 @@ heldAfter s number l = cond (isCallFault number) s (packed l)
 -- ---- the start of a link
 
 abbrev pub linkStartNumber : List ℕ → ℕ
-linkStartNumber s = cond (isState s) none badState
+linkStartNumber s = unless (isState s) badState
 
 -- rest, all else 0
 abbrev pub linkStart : List ℕ → List ℕ
@@ -46,7 +46,7 @@ linkStart s = packedInto s (inPhase rest)
 
 -- the room is looked at first
 abbrev pub textNumber : ℕ → ℤ → List ℕ → ℕ
-textNumber d v cs = cond (leb width (length cs)) (written width d v .number) shortBuffer
+textNumber d v cs = firstMet (unless (leb width (length cs)) shortBuffer ∷ written width d v .number ∷ [])
 
 -- the six characters stand at the front, zeros where the value was refused; without room for them nothing is written
 abbrev pub textLeft : ℕ → ℤ → List ℕ → List ℕ

@@ -11,11 +11,6 @@ use Rattle.rkc.specs.Outcome.{Step, Outcome}
 use Rattle.state.specs.State.{stateBytes}
 use Rattle.panel.specs.Calls.{result, isCallFault, heldAfter}
 
--- it gives back this number, and leaves the bytes so
-pub record LentBytes (number : ℕ) (bytes : List ℕ) (r : ℕ) (after : List ℕ) : Type 0 where
-  pub given : r ≡ number
-  pub left : after ≡ bytes
-
 -- a bound that no reply of either line is over, so that its length has room in a result
 abbrev pub longestReply : ℕ
 longestReply = 256

@@ -12,7 +12,7 @@ ghost use Rattle.rkc.specs.Outcome.{received, idled};
 ghost use Rattle.state.specs.State.{unpacked};
 ghost use Rattle.rtu.specs.Promise.{Acts};
 ghost use Rattle.panel.specs.Calls.{result, answerIn, isCallFault, linkStartNumber, linkStart, textNumber, textLeft};
-ghost use Rattle.panel.specs.Promise.{LentBytes, longestReply, Holdable, Held, StepLeft, ByteLeft};
+ghost use Rattle.panel.specs.Promise.{longestReply, Holdable, Held, StepLeft, ByteLeft};
 use rkc::Link;
 use rkc::Stepped;
 
@@ -65,7 +65,7 @@ pub extern "C" fn vb_start_table(table: &mut [i32]) -> u32
 // The link starts at rest.
 #[no_mangle]
 pub extern "C" fn vb_start_link(state: &mut [u8]) -> u32
-    ensures { λ r. ⌜ LentBytes (linkStartNumber (now (state .entry))) (linkStart (now (state .entry))) r (now (state .exit)) ⌝ }
+    ensures { λ r. ⌜ Lent (linkStartNumber (now (state .entry))) (linkStart (now (state .entry))) r (now (state .exit)) ⌝ }
 {
     if state.len() != state::STATE_BYTES {
         return BAD_STATE;
@@ -160,7 +160,8 @@ fn put_six(chars: &mut [u8], six: [u8; 6])
 // Number text is written, where there is room for six characters.
 #[no_mangle]
 pub extern "C" fn vb_write_text(decimals: u8, value: i32, chars: &mut [u8]) -> u32
-    ensures { λ r. ⌜ LentBytes (textNumber decimals value (now (chars .entry))) (textLeft decimals value (now (chars .entry))) r (now (chars .exit)) ⌝ }
+    ensures { λ r. ⌜ Lent (textNumber decimals value (now (chars .entry))) (textLeft decimals value (now (chars .entry)))
+        r (now (chars .exit)) ⌝ }
 {
     if chars.len() < text::WIDTH {
         return numbers::SHORT_BUFFER as u32;

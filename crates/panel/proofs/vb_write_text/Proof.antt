@@ -1,11 +1,13 @@
 -- `panel::vb_write_text` meets its contract: without room nothing is written, and else what `text::write` gives. Assumes nothing.
 use borrow.Author.Needs.{needs}
-use mathlib.Core.Path.{ap, _∙_}
+use mathlib.Core.Path.{sym, ap, _∙_}
 use native.Mathlib.Omega.{arith}
 use borrow.Author.Tests.{le-leb, lt-leb}
 use lib.ListN.{length}
+use Rattle.numbers.proofs.Order.{last-met}
 use Rattle.sign.proofs.Laws.{read-back}
 use Rattle.text.specs.Numbers.{width}
+use Rattle.text.specs.declared.Written.{Written}
 use Rattle.text.specs.Writing.{written}
 use Rattle.panel.proofs.vb_write_text.Statement.{statement}
 use Rattle.panel.proofs.vb_write_text.Tie as tie
@@ -34,9 +36,11 @@ returns-2 : tie.Need-returns-2
 returns-2 c =
     let s = c .before .before .before .before .before .before .before .before .before in
     let wide = le-leb _ _ (c .before .before .before .before .before .before .before .if1 .left) in
-    let text = c .before .before .before .before .before .before .write .ensures ∙ ap (written width (s .args .decimals)) (read-back (s .args .value) (s .fits .value)) in
+    let text =
+    c .before .before .before .before .before .before .write .ensures
+    ∙ ap (written width (s .args .decimals)) (read-back (s .args .value) (s .fits .value)) in
     record {
-      given = rw (wide, text);
+      given = ap (λ (w : Written). w .number) text ∙ rw wide (sym (last-met (written width (s .args .decimals) (s .args .value) .number)));
       left = c .before .before .before .put-six .ensures ∙ rw (wide, text);
     }
 
