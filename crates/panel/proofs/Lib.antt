@@ -1,4 +1,5 @@
 pub mod Faults
 pub mod Holding
 pub mod Frames
+pub mod Demands
 pub mod Single

@@ -35,7 +35,7 @@ use Rattle.rkc.proofs.Acts.{every-act}
 use Rattle.rkc.proofs.Fits.{always-sent}
 
 -- a test that each of some numbers passes, passes for one of them
-abbrev allPass : (ℕ → Bool) → List ℕ → Bool
+abbrev pub allPass : (ℕ → Bool) → List ℕ → Bool
 allPass p [] = true
 allPass p (m ∷ ms) = p m && allPass p ms
 
