@@ -5,12 +5,11 @@ use borrow.Author.Tests.{eq-eqb, ne-eqb}
 use mathlib.Core.Path.{_≡_, refl, sym, ap, _∙_}
 use Prim.Native.Nat.{_-_, _≤_}
 use native.Mathlib.Omega.{arith}
-use lib.IntN.{ℤ, pos}
-use lib.ListN.{getD, length, drop, length-set, drop-of-length-le}
+use lib.IntN.{ℤ}
+use lib.ListN.{length, drop, length-set, drop-of-length-le}
 use lib.Seq.{sets}
 use mathlib.Core.List.{List}
-use mir.Syntax.{w32}
-use mir.Val.{toZ, ofZ}
+use Rattle.sign.proofs.Laws.{same}
 use Rattle.items.specs.ItemList.{items}
 use Rattle.table.specs.Table.{startValues, startNumber, startTable, entry}
 use Rattle.table.proofs.Turns.{store-turn, store-all}
@@ -54,7 +53,7 @@ unfolding startValues
 loop-again c =
     let l = c .before .before in
     let i = l .loop .i in
-    let value : toZ w32 (ofZ w32 (getD startValues i (pos 0))) ≡ entry startValues i = search needs in (
+    let value = same (entry startValues i) (c .first .given) in (
       search needs,
       simp length-set (l .loop .inv .1),
       rw value (sym (store-turn (l .loop .table) startValues i (c .before .loop-test .taken)) ∙ l .loop .inv .2),
