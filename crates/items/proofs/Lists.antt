@@ -1,5 +1,5 @@
--- Laws on lists and tests that the proofs of this crate share: reading at a place, a table by what is left of it, and a test
--- at each number below a bound.
+-- Laws on lists and tests for the proofs here and in the crates above: reading a column at a place, a function's values and a test
+-- at each number below a bound, and a search by the lines that are left.
 -- Assumes nothing.
 use mathlib.Core.Path.{_≡_, refl, ap, _∙_}
 use mathlib.Core.Bool.{Bool, true, false, cond, _&&_}

@@ -1,4 +1,4 @@
--- The laws that the crates above use: a good table stays good, what a store leaves alone, and when an alarm state is 1.
+-- Laws of the table: a good one stays good, what a store leaves alone, how a put ends, and when an alarm state is 1.
 -- Assumes nothing.
 use mathlib.Core.Path.{_≡_, refl, sym, ap, _∙_}
 use mathlib.Core.Logic.{_⊎_, inl, inr}
