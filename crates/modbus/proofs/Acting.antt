@@ -1,6 +1,6 @@
 -- What comes of a message, case by case: by its fault, by its function, and by its address and the buffer's room.
 -- Assumes nothing.
-use mathlib.Core.Path.{_≡_, refl, sym, ap, subst, _∙_}
+use mathlib.Core.Path.{_≡_, refl, sym, ap, subst, subst⁻¹, _∙_}
 use mathlib.Core.Bool.{true, false}
 use mathlib.Core.List.{List}
 use Prim.Native.Nat.{ℕ, _≤_, _<_}
@@ -78,7 +78,5 @@ ours-head address body e = leb-true headLength (length body) (both (leb headLeng
 pub gives-silence : (t : List ℤ) (number : ℕ) (buffer : List ℕ) (r : Answered) → r ≡ record { number = number; len = 0 }
     → Gives (silent t number) r buffer buffer t
 gives-silence t number buffer r e =
-    record {
-      sends = record { given = ap (λ (a : Answered). a .number) e; len = ap (λ (a : Answered). a .len) e; sent = refl };
-      table = refl;
-    }
+    subst⁻¹ (λ (a : Answered). Gives (silent t number) a buffer buffer t) e
+    (record { sends = record { given = refl; len = refl; sent = refl }; table = refl })

@@ -5,7 +5,7 @@ use mathlib.Core.Bool.{Bool, true, false}
 use mathlib.Core.List.{List}
 use Prim.Native.Nat.{ℕ, _+_, _≤_, _<_}
 use native.Mathlib.Omega.{arith}
-use borrow.Author.Tests.{eqb-true, eq-eqb, leb-true, le-leb, lt-leb}
+use borrow.Author.Tests.{eqb-true, eq-eqb, ne-eqb, leb-true, le-leb, lt-leb}
 use lib.Dec.{eqb, leb}
 use lib.ListN.{length}
 use Rattle.numbers.specs.Numbers.{none, unless}
@@ -43,6 +43,10 @@ module _ (body : List ℕ) where
       either-first _ _ Numbered (data-numbered (rightLength body))
       (either-first _ _ Numbered (data-numbered (goodQuantity (secondWord body)))
       (either-first _ _ Numbered (register-numbered (inMap (firstWord body) (secondWord body))) none-numbered))
+
+  pub read-length : (length body ≡ bodyLength → ⊥) → readFault body ≡ wrongData
+  unfolding readFault
+  read-length h = rw (ne-eqb (length body) bodyLength h)
 
   pub read-none : secondWord body < 1 → length body ≡ bodyLength → readFault body ≡ wrongData
   unfolding readFault
@@ -90,6 +94,10 @@ module _ (body : List ℕ) where
       (either-first _ _ Numbered (register-numbered (writable (firstWord body)))
       (either-first _ _ Numbered (data-numbered (inRange (placeOf (firstWord body)) (ofRegister (secondWord body)))) none-numbered))
 
+  pub write-length : (length body ≡ bodyLength → ⊥) → writeFault body ≡ wrongData
+  unfolding writeFault
+  write-length h = rw (ne-eqb (length body) bodyLength h)
+
   pub write-refused : length body ≡ bodyLength → writable (firstWord body) ≡ false → writeFault body ≡ wrongRegister
   unfolding writeFault
   write-refused h w = rw (eq-eqb (length body) bodyLength h, w)
@@ -121,6 +129,10 @@ module _ (body : List ℕ) where
   loopback-numbered =
       either-first _ _ Numbered (data-numbered (rightLength body))
       (either-first _ _ Numbered (data-numbered (eqb (firstWord body) 0)) none-numbered)
+
+  pub loopback-length : (length body ≡ bodyLength → ⊥) → loopbackFault body ≡ wrongData
+  unfolding loopbackFault
+  loopback-length h = rw (ne-eqb (length body) bodyLength h)
 
   pub loopback-coded : length body ≡ bodyLength → {b : Bool} → b ≡ eqb (firstWord body) 0 → loopbackFault body ≡ unless b wrongData
   unfolding loopbackFault

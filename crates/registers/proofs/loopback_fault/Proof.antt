@@ -2,10 +2,9 @@
 use mathlib.Core.Path.{sym, ap, _∙_}
 use mathlib.Core.Logic.{⊎-elim}
 use Prim.Native.Nat.{ℕ}
-use borrow.Author.Tests.{ne-eqb}
+use native.Mathlib.Omega.{arith}
 use lib.Dec.{eqb}
-use Rattle.registers.specs.Faults.{loopbackFault}
-use Rattle.registers.proofs.Faults.{loopback-coded}
+use Rattle.registers.proofs.Faults.{loopback-length, loopback-coded}
 use borrow.Author.Needs.{needs}
 use Rattle.registers.proofs.loopback_fault.Statement.{statement}
 use Rattle.registers.proofs.loopback_fault.Tie as tie
@@ -15,14 +14,13 @@ first-word-requires c κs = search needs
 
 returns : tie.Need-returns
 returns c =
-    sym (loopback-coded _ (c .before .before .if1 .taken) (sym (c .if2 .taken) ∙ ap (λ (n : ℕ). eqb n 0) (c .before .first-word .ensures)))
+    sym (loopback-coded _ (omega arith) (sym (c .if2 .taken) ∙ ap (λ (n : ℕ). eqb n 0) (c .before .first-word .ensures)))
 
 returns-2 : tie.Need-returns-2
-unfolding loopbackFault
 returns-2 c =
     ⊎-elim
-    (λ w. sym (loopback-coded (c .before .before .args .body .now) (w .0 .taken) (sym (w .2 .left) ∙ ap (λ (n : ℕ). eqb n 0) (w .1 .ensures))))
-    (λ w. rw (ne-eqb _ _ (w .left)))
+    (λ w. sym (loopback-coded (c .before .before .args .body .now) (omega arith) (sym (w .2 .left) ∙ ap (λ (n : ℕ). eqb n 0) (w .1 .ensures))))
+    (λ w. sym (loopback-length (c .before .before .args .body .now) (λ z. omega arith)))
     (c .if1 .came)
 
 pub loopback-fault-spec : {M : Type 1} → statement M

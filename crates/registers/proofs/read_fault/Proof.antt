@@ -3,10 +3,10 @@ use mathlib.Core.Path.{_≡_, sym, ap, ap₂, _∙_}
 use mathlib.Core.Logic.{⊎-elim}
 use mathlib.Core.Bool.{Bool}
 use native.Mathlib.Omega.{arith}
-use borrow.Author.Tests.{ne-eqb, ltb-true, ltb-false}
+use borrow.Author.Tests.{ltb-true, ltb-false}
 use Rattle.numbers.specs.Numbers.{unless}
-use Rattle.registers.specs.Faults.{wrongRegister, mostRegisters, inMap, readFault}
-use Rattle.registers.proofs.Faults.{read-none, read-many, read-span}
+use Rattle.registers.specs.Faults.{wrongRegister, inMap, readFault}
+use Rattle.registers.proofs.Faults.{read-length, read-none, read-many, read-span}
 use borrow.Author.Needs.{needs}
 use Rattle.registers.proofs.read_fault.Statement.{statement}
 use Rattle.registers.proofs.read_fault.Tie as tie
@@ -16,14 +16,11 @@ second-word-requires c κs = search needs
 
 -- another length, no register, or too many
 returns : tie.Need-returns
-unfolding readFault
 returns c =
     let body = c .before .before .before .args .body .now in
-    let quantity = c .before .second-word in
-    ⊎-elim (λ w. rw (ne-eqb _ _ (w .taken)))
-    (⊎-elim
-    (λ w. let no = ltb-true (quantity .result) 1 (w .1 .taken) in sym (read-none body (omega (arith, quantity .ensures)) (w .0 .left)))
-    (λ w. let many = ltb-true mostRegisters (quantity .result) (w .2 .taken) in sym (read-many body (omega (arith, quantity .ensures)) (w .0 .left))))
+    let quantity = c .before .second-word .ensures in
+    ⊎-elim (λ w. sym (read-length body (λ z. omega arith)))
+    (⊎-elim (λ w. sym (read-none body (omega (arith, ltb-true)) (omega arith))) (λ w. sym (read-many body (omega (arith, ltb-true)) (omega arith))))
     (c .if1 .came)
 
 first-word-requires : tie.Need-first-word-requires
@@ -36,13 +33,10 @@ in-map-requires c κs = search needs
 spanned : (c : tie.After-in-map) →
     readFault (c .before .before .before .before .before .before .before .args .body .now) ≡ unless (c .in-map .result) wrongRegister
 spanned c =
-    let few = c .before .before in
-    let some = few .before in
-    let quantity = some .before .before .second-word in
-    let least = ltb-false (quantity .result) 1 (some .if2 .left) in
-    let most = ltb-false mostRegisters (quantity .result) (few .if3 .left) in
-    read-span _ (omega (arith, quantity .ensures)) (omega (arith, quantity .ensures)) (some .before .if1 .left)
-    (c .in-map .ensures ∙ ap₂ inMap (c .before .first-word .ensures) (quantity .ensures))
+    let l = c .before .before .before .before in
+    let quantity = l .before .second-word .ensures in
+    read-span _ (omega (arith, ltb-false)) (omega (arith, ltb-false)) (omega arith)
+    (c .in-map .ensures ∙ ap₂ inMap (c .before .first-word .ensures) quantity)
 
 returns-2 : tie.Need-returns-2
 returns-2 c = sym (spanned (c .before) ∙ ap (λ (b : Bool). unless b wrongRegister) (c .if4 .taken))

@@ -2,20 +2,20 @@
 use mathlib.Core.Path.{_≡_, sym, ap, ap₂, _∙_}
 use mathlib.Core.Bool.{Bool}
 use Prim.Native.Nat.{ℕ}
-use borrow.Author.Tests.{ne-eqb, not-true, not-false}
+use native.Mathlib.Omega.{arith}
+use borrow.Author.Tests.{not-true, not-false}
 use Rattle.numbers.specs.Numbers.{unless}
 use Rattle.sign.proofs.Laws.{same}
 use Rattle.items.specs.ItemList.{itemAt, inRange}
 use Rattle.registers.specs.Register.{ofRegister}
 use Rattle.registers.specs.Faults.{wrongData, firstWord, placeOf, writable, writeFault}
-use Rattle.registers.proofs.Faults.{write-refused, write-ranged}
+use Rattle.registers.proofs.Faults.{write-length, write-refused, write-ranged}
 use borrow.Author.Needs.{needs}
 use Rattle.registers.proofs.write_fault.Statement.{statement}
 use Rattle.registers.proofs.write_fault.Tie as tie
 
 returns : tie.Need-returns
-unfolding writeFault
-returns c = rw (ne-eqb _ _ (c .if1 .taken))
+returns c = sym (write-length _ (λ z. omega arith))
 
 first-word-requires : tie.Need-first-word-requires
 first-word-requires c κs = search needs
@@ -34,7 +34,7 @@ kind : (c : tie.After-writable) → c .writable .result ≡ writable (firstWord 
 kind c = c .writable .ensures ∙ ap (λ (i : ℕ). itemAt i .writable) (place (c .before))
 
 returns-2 : tie.Need-returns-2
-returns-2 c = sym (write-refused _ (c .before .before .before .before .if1 .left) (sym (kind (c .before)) ∙ not-true _ (c .if2 .taken)))
+returns-2 c = sym (write-refused _ (omega arith) (sym (kind (c .before)) ∙ not-true _ (c .if2 .taken)))
 
 second-word-requires : tie.Need-second-word-requires
 second-word-requires c κs = search needs
@@ -51,7 +51,7 @@ ranged : (c : tie.After-in-range) →
 ranged c =
     let w = c .before .before .before in
     let value = c .before .of-register in
-    write-ranged _ (w .before .before .before .before .if1 .left) (sym (kind (w .before)) ∙ not-false _ (w .if2 .left))
+    write-ranged _ (omega arith) (sym (kind (w .before)) ∙ not-false _ (w .if2 .left))
     (c .in-range .ensures
     ∙ ap₂ inRange (place (w .before .before)) (same (value .result) (value .ok) ∙ value .ensures ∙ ap ofRegister (c .before .before .second-word .ensures)))
 
