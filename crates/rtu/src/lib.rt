@@ -36,9 +36,10 @@ fn call_fault(table: &[i32], reply: &[u8], address: u8) -> u8
     if reply.len() < LEAST_BUFFER {
         return SHORT_BUFFER;
     }
-    match address {
-        FIRST_ADDRESS..=LAST_ADDRESS => NONE,
-        _ => BAD_SETTING,
+    if FIRST_ADDRESS <= address && address <= LAST_ADDRESS {
+        NONE
+    } else {
+        BAD_SETTING
     }
 }
 

@@ -1,6 +1,9 @@
 -- `rtu::call_fault` meets its contract: each way out is one of the caller's faults, or none. Assumes nothing.
 use mathlib.Core.Path.{sym, _∙_}
+use mathlib.Core.Logic.{⊎-elim}
 use native.Mathlib.Omega.{arith}
+use borrow.Author.Tests.{leb-true, leb-false}
+use Rattle.rtu.specs.Frame.{Call}
 use Rattle.rtu.proofs.Refusals.{call-table, call-room, call-below, call-above, call-right}
 use borrow.Author.Needs.{needs}
 use Rattle.rtu.proofs.call_fault.Statement.{statement}
@@ -21,19 +24,16 @@ returns-2 c =
 
 returns-3 : tie.Need-returns-3
 returns-3 c =
-    let e = c .before .before .before .before .check .ensures in
-    sym (call-right _ (sym e ∙ c .before .before .before .if1 .left) (omega arith) (omega arith) (omega arith))
+    let l = c .before .before .before in
+    sym (call-right _ (sym (l .before .check .ensures) ∙ l .if1 .left) (omega arith) (omega arith) (omega (arith, leb-true)))
 
 returns-4 : tie.Need-returns-4
 returns-4 c =
-    let e = c .before .before .before .check .ensures in
-    sym (call-below _ (sym e ∙ c .before .before .if1 .left) (omega arith) (omega arith))
-
-returns-5 : tie.Need-returns-5
-returns-5 c =
-    let e = c .before .before .before .before .check .ensures in
-    sym (call-above _ (sym e ∙ c .before .before .before .if1 .left) (omega arith) (omega arith))
+    let l = c .before .before in
+    let a = l .before .before .before .args in
+    let call : Call = record { table = a .table .now; buffer = a .reply .now; address = a .address } in
+    let fine = sym (l .before .check .ensures) ∙ l .if1 .left in
+    ⊎-elim (λ w. sym (call-above call fine (omega arith) (omega (arith, leb-false)))) (λ w. sym (call-below call fine (omega arith) (omega arith))) (c .if3 .came)
 
 pub call-fault-spec : {M : Type 1} → statement M
-call-fault-spec =
-    tie.close (tie.spec check-requires returns returns-2 returns-3 returns-4 returns-5)
+call-fault-spec = tie.close (tie.spec check-requires returns returns-2 returns-3 returns-4)
