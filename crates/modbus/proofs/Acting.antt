@@ -14,7 +14,8 @@ use Rattle.numbers.proofs.Order.{is-refused, is-done}
 use Rattle.modbus.specs.declared.Answered.{Answered}
 use Rattle.modbus.specs.Outcome.{Outcome, otherAddress, unknownFunction, silent, exceptionReply, exception}
 use Rattle.modbus.specs.Outcome.{headLength, addressOf, functionOf}
-use Rattle.modbus.specs.Rules.{readRegisters, writeRegister, loopback, reading, writing, loopingBack, obeying, ours, acted, actedWithin}
+use Rattle.modbus.specs.Rules.{readRegisters, writeRegister, loopback, ours}
+use Rattle.modbus.specs.Rules.{reading, writing, loopingBack, obeying, acted, actedWithin}
 use Rattle.modbus.specs.Promise.{Sends, Gives}
 
 -- ---- a fault, or none
@@ -26,7 +27,9 @@ gives-by e {r} {before} {after} {left} g = subst (λ (o : Outcome). Gives o r be
 module _ (fault : ℕ) (t : List ℤ) (body : List ℕ) (o : Outcome) {number : ℕ} {r : Answered} {before after : List ℕ} where
   pub refused : number ≡ fault → (number ≡ none → ⊥) → Sends number (exceptionReply body number) r before after
       → Gives (unlessMet fault (exception t body) o) r before after t
-  refused e h s = gives-by (ap (exception t body) e ∙ sym (is-refused fault (exception t body) o (λ z. h (e ∙ z)))) (record { sends = s; table = refl })
+  refused e h s =
+      gives-by (ap (exception t body) e ∙ sym (is-refused fault (exception t body) o (λ z. h (e ∙ z))))
+      (record { sends = s; table = refl })
 
   pub accepted : {left : List ℤ} → number ≡ fault → number ≡ none → Gives o r before after left
       → Gives (unlessMet fault (exception t body) o) r before after left
@@ -72,7 +75,8 @@ module _ (t : List ℤ) (address : ℕ) (body : List ℕ) where
 
 -- a message that is ours has an address and a function
 pub ours-head : (address : ℕ) (body : List ℕ) → ours address body ≡ true → headLength ≤ length body
-ours-head address body e = leb-true headLength (length body) (both (leb headLength (length body)) (eqb (addressOf body) address) e .0)
+ours-head address body e =
+    leb-true headLength (length body) (both (leb headLength (length body)) (eqb (addressOf body) address) e .0)
 
 -- silence leaves the buffer and the table
 pub gives-silence : (t : List ℤ) (number : ℕ) (buffer : List ℕ) (r : Answered) → r ≡ record { number = number; len = 0 }

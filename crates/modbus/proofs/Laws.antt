@@ -24,7 +24,8 @@ use Rattle.modbus.proofs.Stores.{length-registers}
 
 -- ---- by cases
 
-module _ (P : Outcome → Type 0) (t : List ℤ) (body : List ℕ) (exceptions : (number : ℕ) → 30 < number → P (exception t body number)) where
+module _ (P : Outcome → Type 0) (t : List ℤ) (body : List ℕ)
+    (exceptions : (number : ℕ) → 30 < number → P (exception t body number)) where
   -- what holds of every exception, and of the outcome where no fault is met
   by-fault : (fault : ℕ) {o : Outcome} → Numbered fault → (fault ≡ none → P o) → P (unlessMet fault (exception t body) o)
   by-fault fault {o} n = either-way fault (exception t body) o P (λ met. exceptions fault (n met))
@@ -91,10 +92,12 @@ module _ (t : List ℤ) (address : ℕ) (body : List ℕ) where
       (λ q. refl)
 
   -- whatever the table, each entry is left as it was or in its range
-  pub stays-or-in-range : (j : ℕ) → (entry (acted t address body .table) j ≡ entry t j) ⊎ (inRange j (entry (acted t address body .table) j) ≡ true)
+  pub stays-or-in-range : (j : ℕ)
+      → (entry (acted t address body .table) j ≡ entry t j) ⊎ (inRange j (entry (acted t address body .table) j) ≡ true)
   unfolding written
   stays-or-in-range j =
-      every (λ (o : Outcome). (entry (o .table) j ≡ entry t j) ⊎ (inRange j (entry (o .table) j) ≡ true)) t address body (inl refl)
+      every (λ (o : Outcome). (entry (o .table) j ≡ entry t j) ⊎ (inRange j (entry (o .table) j) ≡ true)) t address body
+      (inl refl)
       (λ number h. inl refl)
       (λ q. inl refl)
       (λ q. stored-in-range t _ j _ (write-accepted body q .ranged))

@@ -10,9 +10,10 @@ use Rattle.modbus.specs.Promise.{Sends}
 use Rattle.modbus.proofs as modbus
 
 -- two answers that send one reply with one number
-pub answer-single : {number : ℕ} {reply : List ℕ} {r s : Answered} {before after other : List ℕ} → Sends number reply r before after
-    → Sends number reply s before other → r ≡ s
-answer-single p q = ap₂ (λ (n l : ℕ). record { number = n; len = l }) (single (p .given) (q .given)) (single (p .len) (q .len))
+pub answer-single : {number : ℕ} {reply : List ℕ} {r s : Answered} {before after other : List ℕ}
+    → Sends number reply r before after → Sends number reply s before other → r ≡ s
+answer-single p q =
+    ap₂ (λ (n l : ℕ). record { number = n; len = l }) (single (p .given) (q .given)) (single (p .len) (q .len))
 
 pub respond : OneOutcome modbus.respond.ended modbus.respond.Reads.Asked modbus.respond.Reads.Post
 respond =

@@ -9,7 +9,7 @@ use Rattle.numbers.specs.Numbers.{leastBuffer}
 use Rattle.modbus.specs.declared.Answered.{Answered}
 use Rattle.modbus.specs.Outcome.{Outcome, headLength}
 
--- what `respond` has made sure of before it replies: every reply has room in the buffer, and the message has an address and a function
+-- what `respond` has made sure of before it obeys: every reply has room in the buffer, and the message has its head
 pub record Ready (buffer body : List ℕ) : Type 0 where
   pub room : leastBuffer ≤ length buffer
   pub head : headLength ≤ length body

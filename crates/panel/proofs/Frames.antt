@@ -1,5 +1,5 @@
--- `vb_rtu` keeps the promise of `rtu::frame`, of the answer that its result holds. So the demands that the library meets hold of it
--- as they stand.
+-- `vb_rtu` keeps the promise of `rtu::frame`, of the answer that its result holds. So the demands that the library meets hold
+-- of it as they stand.
 -- Assumes nothing.
 use mathlib.Core.Path.{_≡_, ap₂, subst}
 use mathlib.Core.List.{List}
@@ -27,8 +27,8 @@ result-single n l = omega arith
 
 module _ {call : Call} {after : List ℕ} {left : List ℤ} (r : ℕ) where
   -- what the library promises of its answer is promised of the result
-  pub acts-in : {frame : List ℕ} {a : Answered} → a .number < 256 → r ≡ result (a .number) (a .len) → Acts call frame a after left
-      → Acts call frame (answerIn r) after left
+  pub acts-in : {frame : List ℕ} {a : Answered} → a .number < 256 → r ≡ result (a .number) (a .len)
+      → Acts call frame a after left → Acts call frame (answerIn r) after left
   acts-in {frame} n e = subst (λ (x : Answered). Acts call frame x after left) (answer-held n e)
 
   -- every call that keeps its promise meets demand 1

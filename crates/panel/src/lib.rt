@@ -118,8 +118,8 @@ pub extern "C" fn vb_idle(state: &mut [u8], reply: &mut [u8], structure: u8, tim
 // One RTU frame.
 #[no_mangle]
 pub extern "C" fn vb_rtu(table: &mut [i32], reply: &mut [u8], address: u8, frame: &[u8]) -> u32
-    ensures { λ r. ⌜ Acts (record { table = now (table .entry); buffer = now (reply .entry); address = address }) (now (frame .entry))
-        (answerIn r) (now (reply .exit)) (now (table .exit)) ⌝ }
+    ensures { λ r. ⌜ Acts (record { table = now (table .entry); buffer = now (reply .entry); address = address })
+        (now (frame .entry)) (answerIn r) (now (reply .exit)) (now (table .exit)) ⌝ }
 {
     let answered = rtu::frame(table, reply, address, frame);
     result(answered.number, answered.len)

@@ -13,7 +13,9 @@ use Rattle.numbers.proofs.Tests.{both, chosen}
 use Rattle.numbers.proofs.Order.{either-first, last-met, passed}
 use Rattle.items.specs.ItemList.{inRange}
 use Rattle.registers.specs.Register.{ofRegister}
-use Rattle.registers.specs.Faults.{wrongRegister, wrongData, bodyLength, rightLength, mostRegisters, goodQuantity, firstWord, secondWord, inMap, readFault, placeOf, writable, writeFault, loopbackFault}
+use Rattle.registers.specs.Faults.{wrongRegister, wrongData, bodyLength, rightLength, firstWord, secondWord}
+use Rattle.registers.specs.Faults.{mostRegisters, goodQuantity, inMap, readFault}
+use Rattle.registers.specs.Faults.{placeOf, writable, writeFault, loopbackFault}
 
 -- ---- numbers
 
@@ -61,7 +63,8 @@ module _ (body : List ℕ) where
       → b ≡ inMap (firstWord body) (secondWord body) → readFault body ≡ unless b wrongRegister
   unfolding readFault
   read-span l m h e =
-      rw (eq-eqb (length body) bodyLength h, le-leb 1 (secondWord body) l, le-leb (secondWord body) mostRegisters m, ← e) (last-met _)
+      rw (eq-eqb (length body) bodyLength h, le-leb 1 (secondWord body) l, le-leb (secondWord body) mostRegisters m, ← e)
+      (last-met _)
 
 -- what a request to read that meets no fault is
 pub record ToRead (body : List ℕ) : Type 0 where
@@ -92,7 +95,8 @@ module _ (body : List ℕ) where
   write-numbered =
       either-first _ _ Numbered (data-numbered (rightLength body))
       (either-first _ _ Numbered (register-numbered (writable (firstWord body)))
-      (either-first _ _ Numbered (data-numbered (inRange (placeOf (firstWord body)) (ofRegister (secondWord body)))) none-numbered))
+      (either-first _ _ Numbered (data-numbered (inRange (placeOf (firstWord body)) (ofRegister (secondWord body))))
+      none-numbered))
 
   pub write-length : (length body ≡ bodyLength → ⊥) → writeFault body ≡ wrongData
   unfolding writeFault
@@ -134,7 +138,8 @@ module _ (body : List ℕ) where
   unfolding loopbackFault
   loopback-length h = rw (ne-eqb (length body) bodyLength h)
 
-  pub loopback-coded : length body ≡ bodyLength → {b : Bool} → b ≡ eqb (firstWord body) 0 → loopbackFault body ≡ unless b wrongData
+  pub loopback-coded : length body ≡ bodyLength → {b : Bool} → b ≡ eqb (firstWord body) 0
+      → loopbackFault body ≡ unless b wrongData
   unfolding loopbackFault
   loopback-coded h e = rw (eq-eqb (length body) bodyLength h, ← e) (last-met _)
 

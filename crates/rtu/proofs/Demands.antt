@@ -15,7 +15,7 @@ use Rattle.items.specs.ItemList.{itemAt, inRange}
 use Rattle.table.specs.Table.{goodTable, entry}
 use Rattle.table.proofs.Laws.{good-entry}
 use Rattle.crc.specs.Crc.{bodyOf}
-use Rattle.crc.specs.Damage.{Spoils, flip}
+use Rattle.crc.specs.Damage.{flip}
 use Rattle.crc.proofs.Flip.{flip-length}
 use Rattle.crc.proofs.Detects.{damaged-not-right}
 use Rattle.modbus.specs.declared.Answered.{Answered}
@@ -31,7 +31,8 @@ use Rattle.rtu.proofs.Replies.{answered, acted-refused, acted-answered,
 
 -- ---- silence
 
-module _ {call : Call} {o : Outcome} {r : Answered} {after : List ℕ} {left : List ℤ} (g : Gives o r (call .buffer) after left) where
+module _ {call : Call} {o : Outcome} {r : Answered} {after : List ℕ} {left : List ℤ}
+    (g : Gives o r (call .buffer) after left) where
   -- a call that gives silence with this number touches nothing
   untouched : (number : ℕ) → o ≡ silent (call .table) number → Untouched number call r after left
   untouched number e =
@@ -62,9 +63,11 @@ module _ (call : Call) (frame : List ℕ) where
       every-frame call frame (λ (o : Outcome). 0 < o .number → o .table ≡ call .table) (λ number h. refl)
       (λ h. number-leaves-table (call .table) (call .address) (bodyOf frame) (λ z. omega arith))
 
-  frame-in-range : (j : ℕ) → (entry (actedOn call frame .table) j ≡ entry (call .table) j) ⊎ (inRange j (entry (actedOn call frame .table) j) ≡ true)
+  frame-in-range : (j : ℕ)
+      → (entry (actedOn call frame .table) j ≡ entry (call .table) j) ⊎ (inRange j (entry (actedOn call frame .table) j) ≡ true)
   frame-in-range j =
-      every-frame call frame (λ (o : Outcome). (entry (o .table) j ≡ entry (call .table) j) ⊎ (inRange j (entry (o .table) j) ≡ true))
+      every-frame call frame
+      (λ (o : Outcome). (entry (o .table) j ≡ entry (call .table) j) ⊎ (inRange j (entry (o .table) j) ≡ true))
       (λ number. inl refl)
       (stays-or-in-range (call .table) (call .address) (bodyOf frame) j)
 
@@ -111,7 +114,8 @@ demand-3 =
 
 -- so the promise of a call follows from its outcome alone
 module _ (call : Call) (frame : List ℕ) where
-  acts : {r : Answered} {after : List ℕ} {left : List ℤ} → Gives (actedOn call frame) r (call .buffer) after left → Acts call frame r after left
+  acts : {r : Answered} {after : List ℕ} {left : List ℤ} → Gives (actedOn call frame) r (call .buffer) after left
+      → Acts call frame r after left
   acts g =
       record {
         outcome = g;

@@ -13,7 +13,8 @@ use Rattle.numbers.proofs.Tests.{both}
 use Rattle.numbers.proofs.Order.{this-first, next-first, neither-first, last-met, passed}
 use Rattle.table.specs.Table.{tableFault}
 use Rattle.crc.specs.Crc.{isRight}
-use Rattle.rtu.specs.Frame.{wrongFrameLength, wrongCrc, firstAddress, shortest, longest, Call, callFault, frameFault, refusal}
+use Rattle.rtu.specs.Frame.{wrongFrameLength, wrongCrc, firstAddress, shortest, longest}
+use Rattle.rtu.specs.Frame.{Call, callFault, frameFault, refusal}
 
 -- ---- the caller's faults
 
@@ -28,27 +29,25 @@ module _ (call : Call) where
 
   -- where the table and the buffer are right, the address decides
   module _ (e : tableFault (call .table) ≡ none) (h : leastBuffer ≤ length (call .buffer)) where
-    pub call-below : call .address < firstAddress → callFault call ≡ badSetting
+    by-address : callFault call ≡ unless (leb firstAddress (call .address) && leb (call .address) lastAddress) badSetting
     unfolding callFault
-    call-below a = next-first _ _ e ∙ rw (le-leb leastBuffer (length (call .buffer)) h, lt-leb firstAddress (call .address) a)
+    by-address = next-first _ _ e ∙ rw (le-leb leastBuffer (length (call .buffer)) h) (last-met _)
+
+    pub call-below : call .address < firstAddress → callFault call ≡ badSetting
+    call-below a = by-address ∙ rw (lt-leb firstAddress (call .address) a)
 
     pub call-above : lastAddress < call .address → callFault call ≡ badSetting
-    unfolding callFault
-    call-above a =
-        next-first _ _ e
-        ∙ rw (le-leb leastBuffer (length (call .buffer)) h, le-leb firstAddress (call .address) (omega arith), lt-leb (call .address) lastAddress a)
+    call-above a = by-address ∙ rw (le-leb firstAddress (call .address) (omega arith), lt-leb (call .address) lastAddress a)
 
     pub call-right : firstAddress ≤ call .address → call .address ≤ lastAddress → callFault call ≡ none
-    unfolding callFault
-    call-right a b =
-        next-first _ _ e
-        ∙ rw (le-leb leastBuffer (length (call .buffer)) h, le-leb firstAddress (call .address) a, le-leb (call .address) lastAddress b)
+    call-right a b = by-address ∙ rw (le-leb firstAddress (call .address) a, le-leb (call .address) lastAddress b)
 
   pub call-has-room : callFault call ≡ none → 256 ≤ length (call .buffer)
   unfolding callFault
   call-has-room e =
       let others = neither-first (tableFault (call .table)) _ e .1 in
-      leb-true leastBuffer (length (call .buffer)) (passed (leb leastBuffer (length (call .buffer))) shortBuffer _ (omega arith) others .0)
+      let long = passed (leb leastBuffer (length (call .buffer))) shortBuffer _ (omega arith) others .0 in
+      leb-true leastBuffer (length (call .buffer)) long
 
 -- ---- the frame's faults
 
@@ -61,7 +60,8 @@ module _ (frame : List ℕ) where
   unfolding frameFault
   frame-long h = rw (le-leb shortest (length frame) (omega arith), lt-leb (length frame) longest h)
 
-  pub frame-crc : shortest ≤ length frame → length frame ≤ longest → {b : Bool} → b ≡ isRight frame → frameFault frame ≡ unless b wrongCrc
+  pub frame-crc : shortest ≤ length frame → length frame ≤ longest → {b : Bool} → b ≡ isRight frame
+      → frameFault frame ≡ unless b wrongCrc
   unfolding frameFault
   frame-crc h k e = rw (le-leb shortest (length frame) h, le-leb (length frame) longest k, ← e) (last-met _)
 

@@ -34,9 +34,11 @@ module _ (call : Call) (frame : List ℕ) where
   acted-answered = is-done (refusal call frame) (silent (call .table)) answered
 
   -- what holds of a silent outcome and of every message's holds of every frame's
-  pub every-frame : (P : Outcome → Type 0) → ((number : ℕ) → P (silent (call .table) number)) → P answered → P (actedOn call frame)
+  pub every-frame : (P : Outcome → Type 0) → ((number : ℕ) → P (silent (call .table) number)) → P answered
+      → P (actedOn call frame)
   unfolding actedOn
-  every-frame P s a = either-way (refusal call frame) (silent (call .table)) answered P (λ met. s (refusal call frame)) (λ e. a)
+  every-frame P s a =
+      either-way (refusal call frame) (silent (call .table)) answered P (λ met. s (refusal call frame)) (λ e. a)
 
 -- ---- sealing a reply
 

@@ -27,7 +27,8 @@ const LONGEST: usize = 256;
 
 // The caller's fault, 0 for none.
 fn call_fault(table: &[i32], reply: &[u8], address: u8) -> u8
-    ensures { λ r. ⌜ r ≡ callFault (record { table = now (table .entry); buffer = now (reply .entry); address = address }) ⌝ }
+    ensures { λ r. ⌜ r
+        ≡ callFault (record { table = now (table .entry); buffer = now (reply .entry); address = address }) ⌝ }
 {
     let fault = table::check(table);
     if fault != NONE {
@@ -61,7 +62,8 @@ fn frame_fault(frame: &[u8]) -> u8
 // The first of both, 0 for none.
 fn refusal(table: &[i32], reply: &[u8], address: u8, frame: &[u8]) -> u8
     ensures { λ r. ⌜ r
-        ≡ refusal (record { table = now (table .entry); buffer = now (reply .entry); address = address }) (now (frame .entry)) ⌝ }
+        ≡ refusal (record { table = now (table .entry); buffer = now (reply .entry); address = address })
+        (now (frame .entry)) ⌝ }
 {
     let fault = call_fault(table, reply, address);
     if fault != NONE {
@@ -90,8 +92,8 @@ fn answer(table: &mut [i32], reply: &mut [u8], address: u8, frame: &[u8]) -> Ans
 
 // One frame at our address: the number, and the sealed reply at the buffer's front.
 pub fn frame(table: &mut [i32], reply: &mut [u8], address: u8, frame: &[u8]) -> Answered
-    ensures { λ r. ⌜ Acts (record { table = now (table .entry); buffer = now (reply .entry); address = address }) (now (frame .entry))
-        r (now (reply .exit)) (now (table .exit)) ⌝ }
+    ensures { λ r. ⌜ Acts (record { table = now (table .entry); buffer = now (reply .entry); address = address })
+        (now (frame .entry)) r (now (reply .exit)) (now (table .exit)) ⌝ }
 {
     let number = refusal(&table[..], &reply[..], address, frame);
     if number != NONE {

@@ -24,7 +24,7 @@ sealed-short (b ∷ reply) h = omega (arith, length-framed (b ∷ reply))
 short : (call : Call) (frame : List ℕ) → length (actedOn call frame .reply) ≤ longestReply
 short call frame =
     every-frame call frame (λ (o : Outcome). length (o .reply) ≤ longestReply) (λ number. omega arith)
-    (sealed-short (acted (call .table) (call .address) (bodyOf frame) .reply) (reply-short (call .table) (call .address) (bodyOf frame)))
+    (sealed-short _ (reply-short (call .table) (call .address) (bodyOf frame)))
 
 frame-requires : tie.Need-frame-requires
 frame-requires c κs = search needs

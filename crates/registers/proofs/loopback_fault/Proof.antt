@@ -1,4 +1,4 @@
--- `registers::loopback_fault` meets its contract: the length and the test code are right, or one of them is not. Assumes nothing.
+-- `registers::loopback_fault` meets its contract: length and test code are right, or one of them is not. Assumes nothing.
 use mathlib.Core.Path.{sym, ap, _∙_}
 use mathlib.Core.Logic.{⊎-elim}
 use Prim.Native.Nat.{ℕ}
@@ -18,9 +18,9 @@ returns c =
 
 returns-2 : tie.Need-returns-2
 returns-2 c =
-    ⊎-elim
-    (λ w. sym (loopback-coded (c .before .before .args .body .now) (omega arith) (sym (w .2 .left) ∙ ap (λ (n : ℕ). eqb n 0) (w .1 .ensures))))
-    (λ w. sym (loopback-length (c .before .before .args .body .now) (λ z. omega arith)))
+    let body = c .before .before .args .body .now in
+    ⊎-elim (λ w. sym (loopback-coded body (omega arith) (sym (w .2 .left) ∙ ap (λ (n : ℕ). eqb n 0) (w .1 .ensures))))
+    (λ w. sym (loopback-length body (λ z. omega arith)))
     (c .if1 .came)
 
 pub loopback-fault-spec : {M : Type 1} → statement M

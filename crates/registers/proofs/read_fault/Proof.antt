@@ -20,7 +20,8 @@ returns c =
     let body = c .before .before .before .args .body .now in
     let quantity = c .before .second-word .ensures in
     ⊎-elim (λ w. sym (read-length body (λ z. omega arith)))
-    (⊎-elim (λ w. sym (read-none body (omega (arith, ltb-true)) (omega arith))) (λ w. sym (read-many body (omega (arith, ltb-true)) (omega arith))))
+    (⊎-elim (λ w. sym (read-none body (omega (arith, ltb-true)) (omega arith)))
+    (λ w. sym (read-many body (omega (arith, ltb-true)) (omega arith))))
     (c .if1 .came)
 
 first-word-requires : tie.Need-first-word-requires
@@ -31,7 +32,8 @@ in-map-requires c κs = search needs
 
 -- what the rules give after the span was looked at
 spanned : (c : tie.After-in-map) →
-    readFault (c .before .before .before .before .before .before .before .args .body .now) ≡ unless (c .in-map .result) wrongRegister
+    let s = c .before .before .before .before .before .before .before in
+    readFault (s .args .body .now) ≡ unless (c .in-map .result) wrongRegister
 spanned c =
     let l = c .before .before .before .before in
     let quantity = l .before .second-word .ensures in

@@ -47,7 +47,8 @@ in-range-requires c κs = search needs
 
 -- what the rules give after the value was looked at
 ranged : (c : tie.After-in-range) →
-    writeFault (c .before .before .before .before .before .before .before .before .before .args .body .now) ≡ unless (c .in-range .result) wrongData
+    let s = c .before .before .before .before .before .before .before .before .before in
+    writeFault (s .args .body .now) ≡ unless (c .in-range .result) wrongData
 ranged c =
     let w = c .before .before .before in
     let value = c .before .of-register in

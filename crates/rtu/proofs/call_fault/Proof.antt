@@ -33,7 +33,9 @@ returns-4 c =
     let a = l .before .before .before .args in
     let call : Call = record { table = a .table .now; buffer = a .reply .now; address = a .address } in
     let fine = sym (l .before .check .ensures) ∙ l .if1 .left in
-    ⊎-elim (λ w. sym (call-above call fine (omega arith) (omega (arith, leb-false)))) (λ w. sym (call-below call fine (omega arith) (omega arith))) (c .if3 .came)
+    ⊎-elim (λ w. sym (call-above call fine (omega arith) (omega (arith, leb-false))))
+    (λ w. sym (call-below call fine (omega arith) (omega arith)))
+    (c .if3 .came)
 
 pub call-fault-spec : {M : Type 1} → statement M
 call-fault-spec = tie.close (tie.spec check-requires returns returns-2 returns-3 returns-4)
