@@ -58,7 +58,7 @@ obeying table body =
 abbrev pub ours : ℕ → List ℕ → Bool
 ours address body = leb headLength (length body) && eqb (addressOf body) address
 
--- What comes of a message at our address: another's is passed over in silence.
+-- What comes of a message, for a device with this address: another's is passed over in silence.
 unfoldable pub acted : List ℤ → ℕ → List ℕ → Outcome
 acted table address body = unlessMet (unless (ours address body) otherAddress) (silent table) (obeying table body)
 

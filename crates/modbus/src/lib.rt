@@ -186,7 +186,7 @@ fn ours(address: u8, body: &[u8]) -> bool
     HEAD_LENGTH <= body.len() && body[0] == address
 }
 
-// A message at our address: the number, and the reply at the buffer's front.
+// One message, for a device with this address: the number, and the reply at the buffer's front.
 pub fn respond(table: &mut [i32], reply: &mut [u8], address: u8, body: &[u8]) -> Answered
     ensures { λ r. ⌜ Gives (actedWithin (now (table .entry)) (length (now (reply .entry))) address (now (body .entry)))
         r (now (reply .entry)) (now (reply .exit)) (now (table .exit)) ⌝ }

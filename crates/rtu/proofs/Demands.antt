@@ -88,7 +88,7 @@ demand-1-frame call frame {r} {after} {left} a =
     let g = a .outcome in
     let given : r .number ≡ actedOn call frame .number = g .sends .given in
     record {
-      callFaultLeavesAll = λ h. untouched g (callFault call) (fault-silent call frame h);
+      faultLeavesAll = λ h. untouched g (callFault call) (fault-silent call frame h);
       refusalLeavesAll = λ h k.
           untouched g (r .number) (refused-silent call frame (omega arith) (omega arith) ∙ ap (silent (call .table)) (sym given));
       numberLeavesTable = λ h. g .table ∙ numbered-leaves call frame (omega arith);

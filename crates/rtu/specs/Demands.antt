@@ -18,7 +18,7 @@ use Rattle.rtu.specs.Promise.{Untouched}
 -- Demand 1: what is claimed of one frame, whatever was handed in.
 pub record OfFrame (call : Call) (r : Answered) (after : List ℕ) (left : List ℤ) : Type 0 where
   -- the caller's fault gives its number and no reply, and leaves buffer and table
-  pub callFaultLeavesAll : callFault call ≢ none → Untouched (callFault call) call r after left
+  pub faultLeavesAll : callFault call ≢ none → Untouched (callFault call) call r after left
   -- so does every number below the exceptions: 1 to 4 and 21 to 23
   pub refusalLeavesAll : 0 < r .number → r .number < unknownFunction → Untouched (r .number) call r after left
   -- an exception leaves the table too

@@ -90,7 +90,7 @@ fn answer(table: &mut [i32], reply: &mut [u8], address: u8, frame: &[u8]) -> Ans
     }
 }
 
-// One frame at our address: the number, and the sealed reply at the buffer's front.
+// One frame, for a device with this address: the number, and the sealed reply at the buffer's front.
 pub fn frame(table: &mut [i32], reply: &mut [u8], address: u8, frame: &[u8]) -> Answered
     ensures { λ r. ⌜ Acts (record { table = now (table .entry); buffer = now (reply .entry); address = address })
         (now (frame .entry)) r (now (reply .exit)) (now (table .exit)) ⌝ }

@@ -7,7 +7,6 @@ use lib.ListN.{length}
 use Rattle.crc.specs.Crc.{bodyOf}
 use Rattle.crc.proofs.Framed.{length-framed}
 use Rattle.modbus.specs.Outcome.{Outcome}
-use Rattle.modbus.specs.Rules.{acted}
 use Rattle.modbus.proofs.Laws.{reply-short}
 use Rattle.rtu.specs.Frame.{Call, sealedReply, actedOn}
 use Rattle.rtu.proofs.Replies.{every-frame}
