@@ -3,15 +3,17 @@
 -- Assumes nothing.
 use mathlib.Core.Path.{_≡_, ap₂, subst}
 use mathlib.Core.List.{List}
-use Prim.Native.Nat.{ℕ, _/_, _%_, _<_}
+use Prim.Native.Nat.{ℕ, _/_, _%_, _≤_, _<_}
 use native.Mathlib.Omega.{arith}
 use lib.IntN.{ℤ}
 use Rattle.modbus.specs.declared.Answered.{Answered}
 use Rattle.rtu.specs.Frame.{Call}
 use Rattle.rtu.specs.Promise.{Untouched, Acts}
 use Rattle.rtu.specs.Demands.{OfFrame}
+use Rattle.rtu.proofs.Replies.{frame-reply-short}
 use Rattle.rtu.proofs.Demands.{demand-1-frame}
 use Rattle.panel.specs.Calls.{result, answerIn}
+use Rattle.panel.specs.Promise.{longestReply}
 
 -- ---- a result and the answer in it
 
@@ -24,6 +26,14 @@ pub result-single : {r q : ℕ} → r % 256 ≡ q % 256 → r / 256 ≡ q / 256 
 result-single n l = omega arith
 
 -- ---- a frame
+
+-- an answer's length has room in a result
+pub acts-short : {call : Call} {frame : List ℕ} {a : Answered} {after : List ℕ} {left : List ℤ} → Acts call frame a after left
+    → a .len ≤ longestReply
+acts-short {call} {frame} x =
+    let len = x .outcome .sends .len in
+    let short = frame-reply-short call frame in
+    omega arith
 
 module _ {call : Call} {after : List ℕ} {left : List ℤ} (r : ℕ) where
   -- what the library promises of its answer is promised of the result

@@ -16,6 +16,7 @@ use Rattle.modbus.specs.declared.Answered.{Answered}
 use Rattle.modbus.specs.Outcome.{Outcome, silent}
 use Rattle.modbus.specs.Rules.{acted}
 use Rattle.modbus.specs.Promise.{Gives}
+use Rattle.modbus.proofs.Laws.{reply-short}
 use Rattle.rtu.specs.Frame.{Call, refusal, sealedReply, withCrc, actedOn}
 
 -- ---- what comes of a frame, by cases
@@ -50,6 +51,17 @@ sealed-some (b ∷ reply) h = refl
 sealed-none : (reply : List ℕ) → length reply ≡ 0 → sealedReply reply ≡ reply
 sealed-none [] h = refl
 sealed-none (b ∷ reply) h = absurd (omega arith)
+
+-- a reply with its CRC has at most 255 bytes
+sealed-short : (reply : List ℕ) → length reply ≤ 253 → length (sealedReply reply) ≤ 255
+sealed-short [] h = omega arith
+sealed-short (b ∷ reply) h = omega (arith, length-framed (b ∷ reply))
+
+pub frame-reply-short : (call : Call) (frame : List ℕ) → length (actedOn call frame .reply) ≤ 255
+frame-reply-short call frame =
+    every-frame call frame (λ (o : Outcome). length (o .reply) ≤ 255) (λ number. omega arith)
+    (sealed-short (acted (call .table) (call .address) (bodyOf frame) .reply)
+    (reply-short (call .table) (call .address) (bodyOf frame)))
 
 module _ {o : Outcome} {a : Answered} {before mid : List ℕ} {left : List ℤ} (g : Gives o a before mid left) where
   -- a message that nothing was replied to
