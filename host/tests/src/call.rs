@@ -15,6 +15,22 @@ pub enum Function {
     WriteText,
 }
 
+impl Function {
+    /// Its name in the header.
+    pub fn name(self) -> &'static str {
+        match self {
+            Function::StartTable => "vb_start_table",
+            Function::StartLink => "vb_start_link",
+            Function::Byte => "vb_byte",
+            Function::Idle => "vb_idle",
+            Function::Rtu => "vb_rtu",
+            Function::Put => "vb_put",
+            Function::ReadText => "vb_read_text",
+            Function::WriteText => "vb_write_text",
+        }
+    }
+}
+
 /// A function with its arguments. Those that it does not take mean nothing.
 #[derive(Clone, Debug, PartialEq, Eq)]
 pub struct Call {
@@ -164,9 +180,9 @@ impl fmt::Display for Call {
     fn fmt(&self, to: &mut fmt::Formatter<'_>) -> fmt::Result {
         write!(
             to,
-            "{:?} address {:02X} structure {:02X} byte {:02X} decimals {:02X} \
+            "{} address {:02X} structure {:02X} byte {:02X} decimals {:02X} \
              now {:08X} item {:08X} value {:08X}",
-            self.function,
+            self.function.name(),
             self.address,
             self.structure,
             self.byte,

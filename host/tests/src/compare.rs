@@ -1,13 +1,9 @@
 //! Each call is made by the reference and by the library, and what both gave and left is compared
 //! byte for byte.
 
-use crate::call::Call;
+use crate::call::{Call, Function};
+use crate::failure::{Checked, Failure};
 use crate::library::Library;
-
-/// What went wrong, in words for whoever has to find out why.
-pub struct Failure(pub String);
-
-pub type Checked<T> = Result<T, Failure>;
 
 /// A batch goes to the driver once it has this many bytes. With the last call it stays below the
 /// driver's limit of 2^20.
@@ -40,8 +36,8 @@ pub struct Compare {
     running: Batch,
     /// Calls whose outcomes were found the same.
     calls: u64,
-    /// How often each number was given back.
-    counts: [u64; 256],
+    /// How often each number was given back by each function.
+    counts: [[u64; 256]; 8],
 }
 
 impl Compare {
@@ -53,7 +49,7 @@ impl Compare {
             filling: Batch::default(),
             running: Batch::default(),
             calls: 0,
-            counts: [0; 256],
+            counts: [[0; 256]; 8],
         })
     }
 
@@ -66,7 +62,7 @@ impl Compare {
         let result = call.by_reference();
         call.answer(result, &mut batch.answers);
         batch.ends.push(batch.answers.len());
-        self.counts[(result % 256) as usize] += 1;
+        self.counts[call.function as usize][(result % 256) as usize] += 1;
         if self.filling.requests.len() >= BATCH_BYTES {
             self.turn()?;
         }
@@ -83,8 +79,8 @@ impl Compare {
         self.calls
     }
 
-    pub fn count(&self, number: usize) -> u64 {
-        self.counts[number]
+    pub fn count(&self, function: Function, number: usize) -> u64 {
+        self.counts[function as usize][number]
     }
 
     /// Takes in the answers to the running batch and hands over the filled one.
@@ -101,7 +97,7 @@ impl Compare {
         self.running = std::mem::take(&mut self.filling);
         self.library
             .send(&self.running.requests)
-            .map_err(|error| Failure(format!("the driver takes no more requests: {error}")))
+            .map_err(|error| Failure::no_answer(format!("the driver takes no requests: {error}")))
     }
 
     /// Compares the answers to one call.
@@ -110,7 +106,7 @@ impl Compare {
             self.calls += 1;
             return Ok(());
         }
-        Err(Failure(format!(
+        Err(Failure::wrong(format!(
             "call {} differs\n{call}\nreference: {}\nlibrary: {}",
             self.calls + 1,
             call.shown(reference),
@@ -130,16 +126,18 @@ impl Compare {
                 Ok(answer) => self.same(call, &batch.answers[place], &answer)?,
                 Err(_) => {
                     let number = self.calls + 1;
-                    return Err(Failure(format!("call {number} ends the driver\n{call}")));
+                    let why = format!("call {number} ends the driver\n{call}");
+                    return Err(Failure::no_answer(why));
                 }
             }
         }
-        Err(Failure(
+        Err(Failure::no_answer(
             "the driver ended, and not again in the same calls".to_string(),
         ))
     }
 }
 
 fn started(command: &[String]) -> Checked<Library> {
-    Library::start(command).map_err(|error| Failure(format!("{}: {error}", command.join(" "))))
+    Library::start(command)
+        .map_err(|error| Failure::no_answer(format!("{}: {error}", command.join(" "))))
 }

@@ -1,7 +1,8 @@
 //! An instrument on the RKC line, whose state and table go on from call to call.
 
 use crate::call::{Call, Function};
-use crate::compare::{Checked, Compare};
+use crate::compare::Compare;
+use crate::failure::Checked;
 use crate::random::Random;
 use crate::shapes::{good_table, pattern};
 use reference::line::{self, EOT};

@@ -2,7 +2,8 @@
 //! flips within 16 bits in a row. Bits count as they are sent, the lowest of each byte first.
 
 use crate::call::{Call, Function};
-use crate::compare::{Checked, Compare, Failure};
+use crate::compare::Compare;
+use crate::failure::{Checked, Failure};
 use crate::random::Random;
 use crate::shapes::{good_table, pattern};
 use reference::modbus::with_crc;
@@ -45,7 +46,9 @@ impl Sent {
         if result == 22 && call == heard {
             return Ok(());
         }
-        Err(Failure(format!("this damage is not refused\n{heard}")))
+        Err(Failure::wrong(format!(
+            "this damage is not refused\n{heard}"
+        )))
     }
 
     /// Flips the bits that a pattern has, from a place on.

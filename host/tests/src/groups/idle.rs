@@ -1,4 +1,5 @@
-use crate::compare::{Checked, Compare};
+use crate::compare::Compare;
+use crate::failure::Checked;
 use crate::instrument::Instrument;
 use crate::random::Random;
 use crate::shapes::{good_state, PHASES, WAITING};

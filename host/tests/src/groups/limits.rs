@@ -1,5 +1,6 @@
 use crate::call::{Call, Function};
-use crate::compare::{Checked, Compare};
+use crate::compare::Compare;
+use crate::failure::Checked;
 use crate::random::Random;
 use crate::shapes::{
     bad_state, good_state, good_table, odd_state, odd_table, pattern, ADDRESSES, PHASES,

@@ -1,5 +1,6 @@
 use crate::call::{Call, Function};
-use crate::compare::{Checked, Compare};
+use crate::compare::Compare;
+use crate::failure::Checked;
 use crate::random::Random;
 use crate::shapes::{any_value, bad_table, good_table};
 

@@ -1,5 +1,6 @@
 use super::blocks::block;
-use crate::compare::{Checked, Compare};
+use crate::compare::Compare;
+use crate::failure::Checked;
 use crate::instrument::Instrument;
 use crate::random::Random;
 use crate::shapes::identifier;
