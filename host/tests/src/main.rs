@@ -7,9 +7,8 @@
 
 use compare::compare::Compare;
 use compare::failure::{Checked, Failure};
-use compare::groups::GROUPS;
-use compare::numbers;
 use compare::words::Words;
+use compare::{groups, numbers};
 use std::process::ExitCode;
 use std::time::Instant;
 
@@ -39,11 +38,11 @@ fn main() -> ExitCode {
 fn run(seed: u64, driver: Vec<String>, passed: &mut u32) -> Checked<()> {
     let started = Instant::now();
     let mut compare = Compare::with(driver)?;
-    for (group, number) in GROUPS.iter().zip(0..) {
-        let calls = group.run(&mut compare, seed.wrapping_add(number))?;
-        println!("{}: {calls} calls", group.name);
+    groups::all(&mut compare, seed, |name, calls| {
+        println!("{name}: {calls} calls");
         *passed += 1;
-    }
+        Ok(())
+    })?;
     numbers::reached(&compare)?;
     if compare.calls() < LEAST_CALLS {
         return Err(Failure::wrong(format!("only {} calls", compare.calls())));

@@ -11,6 +11,8 @@ pub const STRUCTURES: [u8; 7] = [0, 1, 2, 3, 4, 128, 255];
 pub const REPLY_LENGTHS: [usize; 7] = [0, 1, 11, 255, 256, 257, 300];
 
 // Phases as the state's first byte has them.
+pub const FIRST_DIGIT: u8 = 1;
+pub const SECOND_DIGIT: u8 = 2;
 pub const ONE_CHARACTER: u8 = 4;
 pub const TWO_CHARACTERS: u8 = 5;
 pub const WAITING: u8 = 6;
@@ -120,6 +122,23 @@ fn keep_block(random: &mut Random, state: &mut [u8]) {
     if count >= 2 {
         state[12] = first;
         state[13] = second;
+    }
+}
+
+/// Puts a field that the state's phase uses outside its limits; where it uses none, the phase.
+pub fn outside_limits(state: &mut [u8], random: &mut Random) {
+    let kept = match state[0] {
+        ONE_CHARACTER => 1,
+        TWO_CHARACTERS => 2,
+        TEXT | BCC_DUE => usize::from(state[2].min(8)),
+        _ => 0,
+    };
+    match (state[0], random.below(3)) {
+        (WAITING, _) => state[1] = random.pick(&[0, 13, 14, 128, 255]),
+        (TEXT | BCC_DUE, 0) => state[2] = random.pick(&[10, 11, 128, 255]),
+        (TEXT | BCC_DUE, 1) => state[3] |= 0x80,
+        _ if kept > 0 => state[12 + random.below(kept)] |= 0x80,
+        _ => state[0] = random.pick(&[10, 11, 128, 255]),
     }
 }
 

@@ -2,7 +2,7 @@ use crate::compare::Compare;
 use crate::failure::Checked;
 use crate::instrument::Instrument;
 use crate::random::Random;
-use crate::shapes::{any_value, good_value, identifier, BCC_DUE};
+use crate::shapes::{any_value, good_value, identifier};
 use reference::items::{with_id, ITEMS};
 use reference::line::{bcc, EOT, ETX, STX};
 use reference::number;
@@ -20,9 +20,20 @@ pub fn every_value(compare: &mut Compare, random: &mut Random) -> Checked<()> {
     Ok(())
 }
 
+/// Every two characters as an identifier, with a number behind them.
+pub fn identifiers(compare: &mut Compare, random: &mut Random) -> Checked<()> {
+    for first in 0..0x80 {
+        for second in 0..0x80 {
+            let text = [first, second, b'1'];
+            judged(compare, random, &text, bcc(&text) ^ ETX)?;
+        }
+    }
+    Ok(())
+}
+
 /// Blocks of any text with any BCC.
 pub fn any(compare: &mut Compare, random: &mut Random) -> Checked<()> {
-    for _ in 0..150_000 {
+    for _ in 0..100_000 {
         let text = text(random);
         let check = check_of(random, &text);
         judged(compare, random, &text, check)?;
@@ -32,12 +43,7 @@ pub fn any(compare: &mut Compare, random: &mut Random) -> Checked<()> {
 
 /// A link that has taken in a text and its ETX receives a BCC.
 fn judged(compare: &mut Compare, random: &mut Random, text: &[u8], check: u8) -> Checked<()> {
-    let mut instrument = Instrument::any(random);
-    let kept = &text[..text.len().min(8)];
-    instrument.state[0] = BCC_DUE;
-    instrument.state[2] = text.len().min(9) as u8;
-    instrument.state[3] = bcc(text) ^ ETX;
-    instrument.state[12..12 + kept.len()].copy_from_slice(kept);
+    let mut instrument = Instrument::judging(random, text);
     let byte = instrument.sent(check);
     instrument.byte(compare, random, byte)?;
     Ok(())

@@ -8,7 +8,7 @@ use crate::shapes::{good_state, PHASES, WAITING};
 pub fn silence(compare: &mut Compare, random: &mut Random) -> Checked<()> {
     let silences = [0, 1, 2999, 3000, 3001, 1 << 31, u32::MAX - 1, u32::MAX];
     let times = [0, 1, 2999, 3000, 3001, 1 << 31, u32::MAX - 2999, u32::MAX];
-    for round in 0..60_000 {
+    for round in 0..40_000 {
         let phase = match random.below(4) {
             0 => random.below(usize::from(PHASES)) as u8,
             _ => WAITING,

@@ -51,7 +51,7 @@ pub fn entries(compare: &mut Compare, random: &mut Random) -> Checked<()> {
 /// Any mixture of faults, so that each number is met in its place in the order.
 pub fn together(compare: &mut Compare, random: &mut Random) -> Checked<()> {
     let functions = [Function::Byte, Function::Idle, Function::Rtu, Function::Put];
-    for _ in 0..150_000 {
+    for _ in 0..40_000 {
         let function = random.pick(&functions);
         let mut call = good(random, function);
         if random.one_in(3) {
@@ -88,7 +88,7 @@ pub fn states(compare: &mut Compare, random: &mut Random) -> Checked<()> {
             call.state[0] = phase;
             compare.call(&mut call)?;
         }
-        for _ in 0..100_000 {
+        for _ in 0..30_000 {
             let mut call = good(random, function);
             call.structure = random.below(3) as u8;
             call.state = bad_state(random);

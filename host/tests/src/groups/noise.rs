@@ -2,9 +2,11 @@ use crate::call::{Call, Function};
 use crate::compare::Compare;
 use crate::failure::Checked;
 use crate::random::Random;
+use crate::shapes::{bad_state, good_table};
+use reference::modbus::with_crc;
 
 /// Anything at all, in arrays of any length. A reading of text has room for its value.
-pub fn noise(compare: &mut Compare, random: &mut Random) -> Checked<()> {
+pub fn anything(compare: &mut Compare, random: &mut Random) -> Checked<()> {
     let functions = [
         Function::StartTable,
         Function::StartLink,
@@ -15,7 +17,7 @@ pub fn noise(compare: &mut Compare, random: &mut Random) -> Checked<()> {
         Function::ReadText,
         Function::WriteText,
     ];
-    for _ in 0..50_000 {
+    for _ in 0..40_000 {
         let entries = 1 + random.below(30);
         compare.call(&mut Call {
             function: random.pick(&functions),
@@ -33,4 +35,47 @@ pub fn noise(compare: &mut Compare, random: &mut Random) -> Checked<()> {
         })?;
     }
     Ok(())
+}
+
+/// Noise that no caller's fault keeps from being looked at: a good table, room for the reply and
+/// good settings, with any state, bytes, times, frames, items and values.
+pub fn well_lent(compare: &mut Compare, random: &mut Random) -> Checked<()> {
+    let functions = [Function::Byte, Function::Idle, Function::Rtu, Function::Put];
+    for _ in 0..80_000 {
+        let address = random.between(1, 99) as u8;
+        let length = 256 + random.below(50);
+        compare.call(&mut Call {
+            function: random.pick(&functions),
+            address,
+            structure: random.below(3) as u8,
+            byte: random.byte(),
+            now: random.word(),
+            item: random.below(14) as u32,
+            value: random.between(-2100, 10_100),
+            state: bad_state(random),
+            table: good_table(random),
+            reply: random.bytes(length),
+            input: frame(random, address),
+            ..Call::new(Function::Rtu)
+        })?;
+    }
+    Ok(())
+}
+
+/// Any bytes, mostly as few as a request has and with a right CRC, half of these for this device.
+fn frame(random: &mut Random, address: u8) -> Vec<u8> {
+    let length = match random.below(4) {
+        0 => random.below(260),
+        1 => 2 + random.below(8),
+        _ => 6,
+    };
+    let mut body = random.bytes(length);
+    if random.one_in(8) || length < 2 {
+        return body;
+    }
+    if random.one_in(2) {
+        body[0] = address;
+        body[1] &= 0x0F;
+    }
+    with_crc(body)
 }

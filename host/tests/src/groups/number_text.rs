@@ -10,8 +10,8 @@ const KINDS: [u8; 6] = *b"-.059+";
 /// The longest text that can be a number.
 const LONGEST: u32 = 6;
 
-/// All texts over the kinds at all decimals that are allowed; then any characters, lengths and
-/// decimals.
+/// All texts over the kinds at all decimals that are allowed; every character in every place among
+/// digits; then any characters, lengths and decimals.
 pub fn read(compare: &mut Compare, random: &mut Random) -> Checked<()> {
     for length in 0..=LONGEST {
         for code in 0..KINDS.len().pow(length) {
@@ -20,7 +20,17 @@ pub fn read(compare: &mut Compare, random: &mut Random) -> Checked<()> {
             }
         }
     }
-    for _ in 0..60_000 {
+    for length in 1..=7 {
+        for place in 0..length {
+            for character in 0..=255 {
+                let mut text = b"1234567"[..length].to_vec();
+                text[place] = character;
+                let decimals = random.below(4) as u8;
+                reading(compare, random, decimals, text)?;
+            }
+        }
+    }
+    for _ in 0..30_000 {
         let decimals = any_decimals(random);
         let length = random.below(11);
         let any = (0..length).map(|_| match random.below(12) {
@@ -54,26 +64,52 @@ fn reading(compare: &mut Compare, random: &mut Random, decimals: u8, text: Vec<u
     Ok(())
 }
 
-/// Values on both sides of what fits and of each power of ten, into buffers too short and too long.
+/// Values on both sides of what fits and of each power of ten, at decimals in and beside what is
+/// allowed, into buffers too short and too long.
+pub fn edges_written(compare: &mut Compare, random: &mut Random) -> Checked<()> {
+    let powers = (0..10).map(|exponent| 10_i32.pow(exponent));
+    let beside = powers.flat_map(|power| (-2..=2).map(move |step| power + step));
+    let mut values = vec![i32::MIN, i32::MIN + 1, i32::MAX - 1, i32::MAX];
+    values.extend(beside.flat_map(|value| [value, -value]));
+    for value in values {
+        for decimals in [0, 1, 2, 3, 4, 5, 128, 255] {
+            for length in 0..=9 {
+                writing(compare, random, decimals, value, length)?;
+            }
+        }
+    }
+    Ok(())
+}
+
+/// Any values, most of which fit.
 pub fn written(compare: &mut Compare, random: &mut Random) -> Checked<()> {
-    for _ in 0..100_000 {
-        let power = 10_i32.pow(random.below(10) as u32);
-        let sign = random.pick(&[-1, 1]);
+    for _ in 0..60_000 {
+        let decimals = any_decimals(random);
         let value = match random.below(6) {
             0 => random.word() as i32,
-            1 => random.pick(&[i32::MIN, i32::MIN + 1, i32::MAX, 0]),
-            2 => sign * (power - random.between(0, 2)),
-            3 => sign * power + random.between(-2, 2),
-            _ => random.between(-100_100, 1_000_100),
+            1 | 2 => random.between(-100_100, 1_000_100),
+            _ => random.between(-10_100, 100_100),
         };
-        let length = random.pick(&[0, 1, 2, 3, 4, 5, 6, 6, 6, 6, 6, 7, 8, 9, 10]);
-        compare.call(&mut Call {
-            decimals: any_decimals(random),
-            value,
-            input: pattern(random, length),
-            ..Call::new(Function::WriteText)
-        })?;
+        let length = random.pick(&[5, 6, 6, 6, 10]);
+        writing(compare, random, decimals, value, length)?;
     }
+    Ok(())
+}
+
+/// The characters' place holds something else before.
+fn writing(
+    compare: &mut Compare,
+    random: &mut Random,
+    decimals: u8,
+    value: i32,
+    length: usize,
+) -> Checked<()> {
+    compare.call(&mut Call {
+        decimals,
+        value,
+        input: pattern(random, length),
+        ..Call::new(Function::WriteText)
+    })?;
     Ok(())
 }
 

@@ -1,12 +1,13 @@
 use crate::call::{Call, Function};
 use crate::compare::Compare;
 use crate::failure::Checked;
+use crate::instrument::Instrument;
 use crate::random::Random;
-use crate::shapes::{good_state, good_table, pattern, PHASES};
+use crate::shapes::{good_state, good_table, pattern, FIRST_DIGIT, PHASES, SECOND_DIGIT};
 
 /// The phases in which a byte's meaning hangs on the state's other fields are tried more than once.
 pub fn every_byte(compare: &mut Compare, random: &mut Random) -> Checked<()> {
-    for _ in 0..20 {
+    for _ in 0..8 {
         for structure in 0..=2 {
             for phase in 0..PHASES {
                 for byte in 0..=255 {
@@ -20,6 +21,27 @@ pub fn every_byte(compare: &mut Compare, random: &mut Random) -> Checked<()> {
                         reply: pattern(random, 256),
                         ..Call::new(Function::Byte)
                     })?;
+                }
+            }
+        }
+    }
+    Ok(())
+}
+
+/// Every digit and what stands beside the digits, right and as a line error, for every address.
+pub fn digits(compare: &mut Compare, random: &mut Random) -> Checked<()> {
+    for address in 0..100 {
+        for phase in [FIRST_DIGIT, SECOND_DIGIT] {
+            for structure in 0..=2 {
+                for character in b'0' - 1..=b'9' + 1 {
+                    for top in [0, 0x80] {
+                        let mut instrument = Instrument::any(random);
+                        instrument.address = address;
+                        instrument.structure = structure;
+                        instrument.state = good_state(random, phase);
+                        let byte = instrument.sent(character) ^ top;
+                        instrument.byte(compare, random, byte)?;
+                    }
                 }
             }
         }

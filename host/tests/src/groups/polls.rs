@@ -2,9 +2,24 @@ use crate::compare::Compare;
 use crate::failure::Checked;
 use crate::instrument::Instrument;
 use crate::random::Random;
-use crate::shapes::{good_table, WAITING};
+use crate::shapes::{good_table, TWO_CHARACTERS, WAITING};
 use reference::items::ITEMS;
 use reference::line::{ACK, ENQ, NAK};
+
+/// Every two characters are polled as an identifier.
+pub fn identifiers(compare: &mut Compare, random: &mut Random) -> Checked<()> {
+    for first in 0..0x80 {
+        for second in 0..0x80 {
+            let mut instrument = Instrument::any(random);
+            instrument.state[0] = TWO_CHARACTERS;
+            instrument.state[12] = first;
+            instrument.state[13] = second;
+            let enquiry = instrument.sent(ENQ);
+            instrument.byte(compare, random, enquiry)?;
+        }
+    }
+    Ok(())
+}
 
 /// A waiting link is asked for its item again, with each value that the item can have.
 pub fn every_value(compare: &mut Compare, random: &mut Random) -> Checked<()> {

@@ -3,11 +3,27 @@ use crate::compare::Compare;
 use crate::failure::Checked;
 use crate::random::Random;
 use crate::shapes::{any_value, bad_table, good_table};
+use reference::items::ITEMS;
+
+/// Each item is put to each value of its range, and to the values beside it.
+pub fn every_value(compare: &mut Compare, random: &mut Random) -> Checked<()> {
+    for (row, item) in ITEMS.iter().zip(1..) {
+        for value in row.low - 1..=row.high + 1 {
+            compare.call(&mut Call {
+                item,
+                value,
+                table: good_table(random),
+                ..Call::new(Function::Put)
+            })?;
+        }
+    }
+    Ok(())
+}
 
 /// Every item number in and around the list, with values in and beside the item's range, into
 /// tables of which some have a bad entry already.
-pub fn values(compare: &mut Compare, random: &mut Random) -> Checked<()> {
-    for _ in 0..100_000 {
+pub fn any(compare: &mut Compare, random: &mut Random) -> Checked<()> {
+    for _ in 0..50_000 {
         let item = random.below(12) + 1;
         compare.call(&mut Call {
             item: match random.below(8) {

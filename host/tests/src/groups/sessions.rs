@@ -49,7 +49,7 @@ type Line = fn(&Instrument, &[u8], &mut Random) -> Vec<u8>;
 /// Sessions of many moves each. No move waits for the link to rest, so that each may break into
 /// what the one before it has begun.
 fn sessions(compare: &mut Compare, random: &mut Random, line: Line) -> Checked<()> {
-    for _ in 0..4000 {
+    for _ in 0..1500 {
         let mut instrument = Instrument::any(random);
         for _ in 0..30 {
             let characters = moved(random, instrument.address);

@@ -1,0 +1,36 @@
+use super::{every_set, Fault, ENTRY, TABLE_LENGTH};
+use crate::call::{Call, Function};
+use crate::compare::Compare;
+use crate::failure::Checked;
+use crate::random::Random;
+use crate::shapes::{good_table, good_value};
+use reference::items::ITEMS;
+
+/// 6: an item that there is not.
+const ITEM: Fault = Fault(6, |call, random| {
+    call.item = random.pick(&[0, 13, 256 + call.item, u32::MAX]);
+});
+
+/// 7: a value outside the item's range.
+const VALUE: Fault = Fault(7, |call, random| {
+    let row = &ITEMS[call.item as usize - 1];
+    call.value = random.pick(&[i32::MIN, row.low - 1, row.high + 1, i32::MAX]);
+});
+
+const FAULTS: [Fault; 4] = [TABLE_LENGTH, ENTRY, ITEM, VALUE];
+
+/// Every set of faults, for every item.
+pub fn faults(compare: &mut Compare, random: &mut Random) -> Checked<()> {
+    for _ in 0..100 {
+        for item in 1..=12 {
+            let call = Call {
+                item: item as u32,
+                value: good_value(random, item),
+                table: good_table(random),
+                ..Call::new(Function::Put)
+            };
+            every_set(compare, random, &FAULTS, &call, 0)?;
+        }
+    }
+    Ok(())
+}
