@@ -1,6 +1,6 @@
 # `make test` is the gate: every proof, every must-fail edit, every program and every test around the library. Its last
 # line is `N passed, M failed`.
-.PHONY: test run reference examples compare example
+.PHONY: test run reference examples driver compare soak mutants example
 
 test:
 	@host/gate
@@ -25,11 +25,26 @@ reference:
 examples:
 	cargo run $(cargo_words) host/reference/Cargo.toml | diff crates/vectors/stdout -
 
-# Library against reference on millions of calls; `make compare SEED=N` makes those of an earlier run again.
-compare: $(library)
+# The programs that make calls of the library and compare what they give.
+driver: $(library)
 	host/build/program target/host/driver host/tests/driver.c
 	cargo build $(cargo_words) host/tests/Cargo.toml
-	target/cargo/release/compare $(if $(SEED),--seed $(SEED)) host/build/run target/host/driver
+
+# Library against reference on millions of calls; `make compare SEED=N` makes those of an earlier run again.
+seed = $(if $(SEED),--seed $(SEED))
+compare: driver
+	target/cargo/release/compare $(seed) host/build/run target/host/driver
+
+# The same with other random numbers again and again, until there are 10^8 calls or `make soak CALLS=N`, and for half an
+# hour or SECONDS=N at most.
+soak: driver
+	target/cargo/release/soak $(seed) $(if $(CALLS),--calls $(CALLS)) $(if $(SECONDS),--seconds $(SECONDS)) \
+	    host/build/run target/host/driver
+
+# Wrong versions of the reference, the edits of host/mutants: compare must catch each in each of five runs, or RUNS=N.
+mutants:
+	cargo build $(cargo_words) host/tests/Cargo.toml
+	target/cargo/release/mutants $(seed) $(if $(RUNS),--runs $(RUNS)) host/mutants host/reference target/mutants
 
 # The program that firmware can start from.
 example: $(library)

@@ -10,6 +10,19 @@ pub const STRUCTURES: [u8; 7] = [0, 1, 2, 3, 4, 128, 255];
 /// Lengths of a reply buffer: those that are too short come first.
 pub const REPLY_LENGTHS: [usize; 7] = [0, 1, 11, 255, 256, 257, 300];
 
+/// Times on both sides of the turn of the count, and three seconds away from it.
+pub const TIMES: [u32; 9] = [
+    0,
+    1,
+    2999,
+    3000,
+    3001,
+    1 << 31,
+    u32::MAX - 2999,
+    u32::MAX - 1,
+    u32::MAX,
+];
+
 // Phases as the state's first byte has them.
 pub const FIRST_DIGIT: u8 = 1;
 pub const SECOND_DIGIT: u8 = 2;

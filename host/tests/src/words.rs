@@ -10,14 +10,14 @@ impl Words {
         Words(std::env::args().skip(1).collect())
     }
 
-    /// Takes an option and its number off the front, where it stands there.
+    /// Takes an option and its number out, where it stands among those in front.
     pub fn number(&mut self, option: &str) -> Option<u64> {
-        if self.0.len() < 2 || self.0[0] != option {
-            return None;
-        }
-        let number = self.0[1].parse();
-        self.0.drain(..2);
-        Some(number.unwrap_or_else(|_| panic!("{option} takes a whole number")))
+        let mut options = self.0.chunks(2).take_while(|two| two[0].starts_with("--"));
+        let place = 2 * options.position(|two| two[0] == option)?;
+        let number = self.0.get(place + 1).and_then(|word| word.parse().ok());
+        let number = number.unwrap_or_else(|| panic!("{option} takes a whole number"));
+        self.0.drain(place..place + 2);
+        Some(number)
     }
 
     /// The seed, that of the clock where none is given.

@@ -43,14 +43,15 @@ pub fn lengths(compare: &mut Compare, random: &mut Random) -> Checked<()> {
     Ok(())
 }
 
-/// Every word where a request has its start, its quantity, its register and its test code, all else
-/// being right.
+/// Every word where a request has its start, its quantity, its register, its test code and its test
+/// data, all else being right.
 pub fn every_word(compare: &mut Compare, random: &mut Random) -> Checked<()> {
     for word in 0..=u16::MAX {
         handed(compare, random, 1, words(1, READ, word, 1))?;
         handed(compare, random, 1, words(1, READ, 0, word))?;
         handed(compare, random, 1, words(1, WRITE, word, 0))?;
         handed(compare, random, 1, words(1, LOOPBACK, word, 0))?;
+        handed(compare, random, 1, words(1, LOOPBACK, 0, word))?;
     }
     Ok(())
 }

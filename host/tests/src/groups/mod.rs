@@ -55,6 +55,8 @@ const GROUPS: &[Group] = &[
     group("link states outside their limits", limits::states),
     group("every identifier polled", polls::identifiers),
     group("every identifier in a block", blocks::identifiers),
+    group("every item at times around the turn", polls::times),
+    group("item numbers with other bits", put::item_numbers),
     group("silence, and the turn of the time", idle::silence),
     group("right frames of every length", frames::lengths),
     group("the three Modbus functions", requests::functions),

@@ -81,14 +81,18 @@ pub fn edges_written(compare: &mut Compare, random: &mut Random) -> Checked<()> 
     Ok(())
 }
 
-/// Any values, most of which fit.
+/// Each value that fits at all decimals; then any value, of which most fit without decimals.
 pub fn written(compare: &mut Compare, random: &mut Random) -> Checked<()> {
-    for _ in 0..60_000 {
+    for decimals in 0..=3 {
+        for value in -9_999..=99_999 {
+            writing(compare, random, decimals, value, 6)?;
+        }
+    }
+    for _ in 0..40_000 {
         let decimals = any_decimals(random);
-        let value = match random.below(6) {
+        let value = match random.below(4) {
             0 => random.word() as i32,
-            1 | 2 => random.between(-100_100, 1_000_100),
-            _ => random.between(-10_100, 100_100),
+            _ => random.between(-100_100, 1_000_100),
         };
         let length = random.pick(&[5, 6, 6, 6, 10]);
         writing(compare, random, decimals, value, length)?;

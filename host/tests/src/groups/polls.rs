@@ -2,7 +2,7 @@ use crate::compare::Compare;
 use crate::failure::Checked;
 use crate::instrument::Instrument;
 use crate::random::Random;
-use crate::shapes::{good_table, TWO_CHARACTERS, WAITING};
+use crate::shapes::{good_table, TIMES, TWO_CHARACTERS, WAITING};
 use reference::items::ITEMS;
 use reference::line::{ACK, ENQ, NAK};
 
@@ -31,6 +31,24 @@ pub fn every_value(compare: &mut Compare, random: &mut Random) -> Checked<()> {
             instrument.table[place] = value;
             let again = instrument.sent(NAK);
             instrument.byte(compare, random, again)?;
+        }
+    }
+    Ok(())
+}
+
+/// Each item is sent, the first time and again, at times on both sides of the count's turn.
+pub fn times(compare: &mut Compare, random: &mut Random) -> Checked<()> {
+    for (row, item) in ITEMS.iter().zip(1..) {
+        for now in TIMES {
+            for (phase, character) in [(TWO_CHARACTERS, ENQ), (WAITING, ACK), (WAITING, NAK)] {
+                let mut instrument = Instrument::any(random);
+                instrument.now = now;
+                instrument.state[0] = phase;
+                instrument.state[1] = item;
+                instrument.state[12..14].copy_from_slice(&row.id);
+                let byte = instrument.sent(character);
+                instrument.byte(compare, random, byte)?;
+            }
         }
     }
     Ok(())

@@ -2,7 +2,7 @@ use crate::call::{Call, Function};
 use crate::compare::Compare;
 use crate::failure::Checked;
 use crate::random::Random;
-use crate::shapes::{any_value, bad_table, good_table};
+use crate::shapes::{any_value, bad_table, good_table, good_value};
 use reference::items::ITEMS;
 
 /// Each item is put to each value of its range, and to the values beside it.
@@ -16,6 +16,20 @@ pub fn every_value(compare: &mut Compare, random: &mut Random) -> Checked<()> {
                 ..Call::new(Function::Put)
             })?;
         }
+    }
+    Ok(())
+}
+
+/// Item numbers of which some bits would be one of the list.
+pub fn item_numbers(compare: &mut Compare, random: &mut Random) -> Checked<()> {
+    let with_a_bit = (4..32).flat_map(|bit| (0..16).map(move |low| low | 1 << bit));
+    for item in (0..16).chain(with_a_bit) {
+        compare.call(&mut Call {
+            item,
+            value: good_value(random, (item % 12) as usize + 1),
+            table: good_table(random),
+            ..Call::new(Function::Put)
+        })?;
     }
     Ok(())
 }
