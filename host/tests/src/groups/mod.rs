@@ -62,7 +62,6 @@ const GROUPS: &[Group] = &[
     group("the three Modbus functions", requests::functions),
     group("frames of every kind and length", requests::every),
     group("edges of number text written", number_text::edges_written),
-    group("number text written", number_text::written),
     group("number text read", number_text::read),
     group("every value of every item sent", polls::every_value),
     group("every value of every item set", blocks::every_value),
@@ -73,6 +72,10 @@ const GROUPS: &[Group] = &[
         frames::every_value_written,
     ),
     group("every word of a request", frames::every_word),
+    group(
+        "every value that fits written",
+        number_text::every_fit_written,
+    ),
     group("values put by the firmware", put::any),
     group("runs over the list by ACK and NAK", polls::runs),
     group("any text with any BCC", blocks::any),

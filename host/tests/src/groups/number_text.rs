@@ -64,13 +64,14 @@ fn reading(compare: &mut Compare, random: &mut Random, decimals: u8, text: Vec<u
     Ok(())
 }
 
-/// Values on both sides of what fits and of each power of ten, at decimals in and beside what is
-/// allowed, into buffers too short and too long.
+/// Values on both sides of what fits and of each power of ten, and any others, at decimals in and
+/// beside what is allowed, into buffers too short and too long.
 pub fn edges_written(compare: &mut Compare, random: &mut Random) -> Checked<()> {
     let powers = (0..10).map(|exponent| 10_i32.pow(exponent));
     let beside = powers.flat_map(|power| (-2..=2).map(move |step| power + step));
     let mut values = vec![i32::MIN, i32::MIN + 1, i32::MAX - 1, i32::MAX];
     values.extend(beside.flat_map(|value| [value, -value]));
+    values.extend((0..400).map(|_| random.word() as i32));
     for value in values {
         for decimals in [0, 1, 2, 3, 4, 5, 128, 255] {
             for length in 0..=9 {
@@ -81,21 +82,15 @@ pub fn edges_written(compare: &mut Compare, random: &mut Random) -> Checked<()> 
     Ok(())
 }
 
-/// Each value that fits at all decimals; then any value, of which most fit without decimals.
-pub fn written(compare: &mut Compare, random: &mut Random) -> Checked<()> {
-    for decimals in 0..=3 {
+/// Each value that fits, at each of the decimals that are allowed.
+pub fn every_fit_written(compare: &mut Compare, random: &mut Random) -> Checked<()> {
+    for value in -99_999..=999_999 {
+        writing(compare, random, 0, value, 6)?;
+    }
+    for decimals in 1..=3 {
         for value in -9_999..=99_999 {
             writing(compare, random, decimals, value, 6)?;
         }
-    }
-    for _ in 0..40_000 {
-        let decimals = any_decimals(random);
-        let value = match random.below(4) {
-            0 => random.word() as i32,
-            _ => random.between(-100_100, 1_000_100),
-        };
-        let length = random.pick(&[5, 6, 6, 6, 10]);
-        writing(compare, random, decimals, value, length)?;
     }
     Ok(())
 }
