@@ -83,7 +83,7 @@ pub fn edges_written(compare: &mut Compare, random: &mut Random) -> Checked<()> 
 }
 
 /// Each value that fits, at each of the decimals that are allowed.
-pub fn every_fit_written(compare: &mut Compare, random: &mut Random) -> Checked<()> {
+pub fn every_fit(compare: &mut Compare, random: &mut Random) -> Checked<()> {
     for value in -99_999..=999_999 {
         writing(compare, random, 0, value, 6)?;
     }

@@ -4,6 +4,7 @@ use crate::failure::Checked;
 use crate::instrument::Instrument;
 use crate::random::Random;
 use crate::shapes::{good_state, good_table, pattern, FIRST_DIGIT, PHASES, SECOND_DIGIT};
+use reference::line::sent;
 
 /// The phases in which a byte's meaning hangs on the state's other fields are tried more than once.
 pub fn every_byte(compare: &mut Compare, random: &mut Random) -> Checked<()> {
@@ -31,20 +32,33 @@ pub fn every_byte(compare: &mut Compare, random: &mut Random) -> Checked<()> {
 /// Every digit and what stands beside the digits, right and as a line error, for every address.
 pub fn digits(compare: &mut Compare, random: &mut Random) -> Checked<()> {
     for address in 0..100 {
-        for phase in [FIRST_DIGIT, SECOND_DIGIT] {
-            for structure in 0..=2 {
-                for character in b'0' - 1..=b'9' + 1 {
-                    for top in [0, 0x80] {
-                        let mut instrument = Instrument::any(random);
-                        instrument.address = address;
-                        instrument.structure = structure;
-                        instrument.state = good_state(random, phase);
-                        let byte = instrument.sent(character) ^ top;
-                        instrument.byte(compare, random, byte)?;
-                    }
+        for structure in 0..=2 {
+            for character in b'0' - 1..=b'9' + 1 {
+                let byte = sent(structure, character);
+                for byte in [byte, byte ^ 0x80] {
+                    digit(compare, random, (address, structure), byte)?;
                 }
             }
         }
+    }
+    Ok(())
+}
+
+/// A byte in the place of either digit.
+fn digit(
+    compare: &mut Compare,
+    random: &mut Random,
+    (address, structure): (u8, u8),
+    byte: u8,
+) -> Checked<()> {
+    for phase in [FIRST_DIGIT, SECOND_DIGIT] {
+        let mut instrument = Instrument {
+            address,
+            structure,
+            state: good_state(random, phase),
+            ..Instrument::any(random)
+        };
+        instrument.byte(compare, random, byte)?;
     }
     Ok(())
 }

@@ -58,11 +58,10 @@ impl Edit {
     pub fn make(&self, copy: &Path) -> Result<(), String> {
         for change in &self.changes {
             let path = copy.join(&change.file);
-            let text =
-                fs::read_to_string(&path).map_err(|error| format!("{}: {error}", change.file))?;
+            let text = fs::read_to_string(&path).map_err(|error| format!("{path:?}: {error}"))?;
             let changed = change
                 .made(&text)
-                .ok_or_else(|| format!("`{}` does not stand there once", change.old))?;
+                .ok_or_else(|| format!("{path:?} does not have `{}` once", change.old))?;
             fs::write(&path, changed).map_err(|error| error.to_string())?;
         }
         Ok(())
@@ -89,7 +88,7 @@ fn parsed(text: &str) -> Option<(String, Vec<Change>)> {
             _ => return None,
         }
     }
-    (!changes.is_empty()).then(|| (wrong, changes))
+    (!changes.is_empty()).then_some((wrong, changes))
 }
 
 impl Change {

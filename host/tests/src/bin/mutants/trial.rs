@@ -45,8 +45,9 @@ impl Trial<'_> {
             }
         }
         let groups: Vec<&str> = groups.into_iter().collect();
+        let by = if times > 0 { ", by " } else { "" };
         let how = format!(
-            "caught in {times} of {} runs, by {}",
+            "caught in {times} of {} runs{by}{}",
             self.runs,
             groups.join("; ")
         );

@@ -55,29 +55,35 @@ const TEXTS: [(&[u8], u32); 36] = [
     (b"TM999", 0),
 ];
 
+/// The mark of a block and the top bit that is flipped in its BCC: the first has met no line error.
+const DAMAGES: [(u8, u8); 5] = [(0, 0), (1, 0), (255, 0), (0, 0x80), (1, 0x80)];
+
 /// Every set of the caller's faults, on whatever else a byte can be refused for.
 pub fn faults(compare: &mut Compare, random: &mut Random) -> Checked<()> {
     for (text, number) in TEXTS {
-        for line_error in [false, true] {
-            for mark in [0, 1, 255] {
-                for flip in [0, STX, ETX, 0x40] {
-                    let number = match (line_error || mark != 0, flip) {
-                        (true, _) => 11,
-                        (false, 0) => number,
-                        _ => 12,
-                    };
-                    let mut instrument = Instrument::judging(random, text);
-                    instrument.state[4] = mark;
-                    let check = instrument.sent(bcc(text) ^ ETX ^ flip);
-                    let byte = check ^ if line_error { 0x80 } else { 0 };
-                    let call = instrument.call_byte(random, byte);
-                    every_set(compare, random, &FAULTS, &call, number)?;
-                }
-            }
-        }
+        blocks(compare, random, text, number)?;
     }
     for _ in 0..20 {
         polls(compare, random)?;
+    }
+    Ok(())
+}
+
+/// A block of this text, with and without line errors, with the right BCC and some others.
+fn blocks(compare: &mut Compare, random: &mut Random, text: &[u8], number: u32) -> Checked<()> {
+    for (mark, top) in DAMAGES {
+        for flip in [0, STX, ETX, 0x40] {
+            let mut instrument = Instrument::judging(random, text);
+            instrument.state[4] = mark;
+            let byte = instrument.sent(bcc(text) ^ ETX ^ flip) ^ top;
+            let call = instrument.call_byte(random, byte);
+            let number = match (mark, top, flip) {
+                (0, 0, 0) => number,
+                (0, 0, _) => 12,
+                _ => 11,
+            };
+            every_set(compare, random, &FAULTS, &call, number)?;
+        }
     }
     Ok(())
 }
