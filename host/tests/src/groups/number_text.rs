@@ -10,26 +10,10 @@ const KINDS: [u8; 6] = *b"-.059+";
 /// The longest text that can be a number.
 const LONGEST: u32 = 6;
 
-/// All texts over the kinds at all decimals that are allowed; every character in every place among
-/// digits; then any characters, lengths and decimals.
+/// Texts that are systematic in one way or another, then any characters, lengths and decimals.
 pub fn read(compare: &mut Compare, random: &mut Random) -> Checked<()> {
-    for length in 0..=LONGEST {
-        for code in 0..KINDS.len().pow(length) {
-            for decimals in 0..=3 {
-                reading(compare, random, decimals, spelled(length, code))?;
-            }
-        }
-    }
-    for length in 1..=7 {
-        for place in 0..length {
-            for character in 0..=255 {
-                let mut text = b"1234567"[..length].to_vec();
-                text[place] = character;
-                let decimals = random.below(4) as u8;
-                reading(compare, random, decimals, text)?;
-            }
-        }
-    }
+    kinds(compare, random)?;
+    characters(compare, random)?;
     for _ in 0..30_000 {
         let decimals = any_decimals(random);
         let length = random.below(11);
@@ -39,6 +23,33 @@ pub fn read(compare: &mut Compare, random: &mut Random) -> Checked<()> {
         });
         let text = any.collect();
         reading(compare, random, decimals, text)?;
+    }
+    Ok(())
+}
+
+/// All texts over the kinds, at all decimals that are allowed.
+fn kinds(compare: &mut Compare, random: &mut Random) -> Checked<()> {
+    for length in 0..=LONGEST {
+        for code in 0..KINDS.len().pow(length) {
+            for decimals in 0..=3 {
+                reading(compare, random, decimals, spelled(length, code))?;
+            }
+        }
+    }
+    Ok(())
+}
+
+/// Every character in every place among digits.
+fn characters(compare: &mut Compare, random: &mut Random) -> Checked<()> {
+    for length in 1..=7 {
+        for place in 0..length {
+            for character in 0..=255 {
+                let mut text = b"1234567"[..length].to_vec();
+                text[place] = character;
+                let decimals = random.below(4) as u8;
+                reading(compare, random, decimals, text)?;
+            }
+        }
     }
     Ok(())
 }
