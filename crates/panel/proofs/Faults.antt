@@ -42,10 +42,10 @@ pub received-whole : (s : List ℕ) (call : ByteCall) → call .link ≡ unpacke
 unfolding received
 received-whole s call e =
     whole-by s (byteFault call) (λ n. one-passes isCallFault byteFaults (byteFault call) refl (byte-faults call n))
-    (λ z. rw (← e) (step-none _ _ _ (byte-none call z .1) .2)) (λ (o : Outcome). o .step .number) _ _ refl
+    (λ z. rw (← e) (byte-none call z .step .limits)) (λ (o : Outcome). o .step .number) _ _ refl
 
 pub idled-whole : (s : List ℕ) (call : IdleCall) → call .link ≡ unpacked s → isCallFault (idled call .number) ≡ false → length s ≡ stateBytes
 unfolding idled idleFault
 idled-whole s call e =
     whole-by s (idleFault call) (λ n. one-passes isCallFault idleFaults (idleFault call) refl (idle-faults call n))
-    (λ z. rw (← e) (step-none _ _ _ z .2)) (λ (o : Step). o .number) _ _ refl
+    (λ z. rw (← e) (step-none _ _ _ z .limits)) (λ (o : Step). o .number) _ _ refl

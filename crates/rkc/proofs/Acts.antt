@@ -1,4 +1,4 @@
--- Every act that a character asks for, phase by phase, so that a claim about what is asked for is shown of each kind of act alone.
+-- Every act that a character asks for, phase by phase, so that a claim about what is asked for is shown of each kind of act.
 -- Assumes nothing.
 use mathlib.Core.Path.{_≡_, refl}
 use mathlib.Core.Bool.{Bool, true, false}

@@ -27,7 +27,7 @@ use Rattle.block.proofs.Laws.{stores, refuses}
 use Rattle.rkc.specs.declared.Link.{Link}
 use Rattle.rkc.specs.declared.Stepped.{Stepped}
 use Rattle.rkc.specs.State.{inPhase, waitingOn, asBlock, used, inLimits}
-use Rattle.rkc.specs.Outcome.{Step, Outcome, keeping, silent, sends, quit, noRoom, dataReply, itemSent, judged, performed, asked, handedBack}
+use Rattle.rkc.specs.Outcome.{Step, Outcome, keeping, silent, sends, quit, noRoom, dataReply, itemSent, judged, performed, asked, handedBack, done}
 use Rattle.rkc.specs.Outcome.{badState, stepFault, ByteCall, goodSettings, byteFault, received}
 use Rattle.rkc.specs.Outcome.{IdleCall, elapsed, patience, timedOut, idleFault, passed, idled}
 use Rattle.rkc.specs.Promise.{Steps, Does}
@@ -90,13 +90,6 @@ module _ (l : Link) (room : ℕ) (settings : Bool) where
   unfolding stepFault
   step-state {b} h s e = simp (le-leb leastBuffer room h, s, ← e) (last-met (unless b badState))
 
-  -- where none is met
-  pub step-none : stepFault l room settings ≡ none → (leastBuffer ≤ room) × (settings ≡ true) × (inLimits l ≡ true)
-  unfolding stepFault
-  step-none e =
-      let ns = unless (leb leastBuffer room) shortBuffer ∷ unless settings badSetting ∷ unless (inLimits l) badState ∷ [] in
-      (leb-true _ _ (test-held _ shortBuffer (omega arith) (none-at ns 0 e)), test-held _ badSetting (omega arith) (none-at ns 1 e), test-held _ badState (omega arith) (none-at ns 2 e))
-
 module _ (t : List ℤ) (step : ℕ) {f : ℕ} (e : f ≡ tableFault t) where
   pub table-first : (f ≡ none → ⊥) → firstMet (tableFault t ∷ step ∷ []) ≡ f
   table-first n = rw (← e) (this-met f (step ∷ []) n)
@@ -104,13 +97,43 @@ module _ (t : List ℤ) (step : ℕ) {f : ℕ} (e : f ≡ tableFault t) where
   pub step-next : f ≡ none → firstMet (tableFault t ∷ step ∷ []) ≡ step
   step-next z = rw (← e) (not-met f (step ∷ []) z ∙ last-met step)
 
-pub byte-none : (call : ByteCall) → byteFault call ≡ none
-    → (tableFault (call .table) ≡ none)
-    × (stepFault (call .link) (length (call .buffer)) (goodSettings (call .address) (call .structure)) ≡ none)
-unfolding byteFault
-byte-none call e =
-    let ns = tableFault (call .table) ∷ stepFault (call .link) (length (call .buffer)) (goodSettings (call .address) (call .structure)) ∷ [] in
-    (none-at ns 0 e, none-at ns 1 e)
+-- what a step is handed where none of its faults is met
+pub record FineStep (l : Link) (room : ℕ) (settings : Bool) : Type 0 where
+  pub roomy : leastBuffer ≤ room
+  pub set : settings ≡ true
+  pub limits : inLimits l ≡ true
+
+pub step-none : (l : Link) (room : ℕ) (settings : Bool) → stepFault l room settings ≡ none → FineStep l room settings
+unfolding stepFault
+step-none l room settings e =
+    let ns = unless (leb leastBuffer room) shortBuffer ∷ unless settings badSetting ∷ unless (inLimits l) badState ∷ [] in
+    record {
+      roomy = leb-true _ _ (test-held _ shortBuffer (omega arith) (none-at ns 0 e));
+      set = test-held _ badSetting (omega arith) (none-at ns 1 e);
+      limits = test-held _ badState (omega arith) (none-at ns 2 e);
+    }
+
+pub step-fine : (l : Link) (room : ℕ) (settings : Bool) → FineStep l room settings → stepFault l room settings ≡ none
+step-fine l room settings f = step-state l room settings (f .roomy) (f .set) (sym (f .limits))
+
+-- and what a byte call is
+pub record Fine (call : ByteCall) : Type 0 where
+  pub table : tableFault (call .table) ≡ none
+  pub step : FineStep (call .link) (length (call .buffer)) (goodSettings (call .address) (call .structure))
+
+module _ (call : ByteCall) where
+  byteStep : ℕ
+  byteStep = stepFault (call .link) (length (call .buffer)) (goodSettings (call .address) (call .structure))
+
+  pub byte-none : byteFault call ≡ none → Fine call
+  unfolding byteFault byteStep
+  byte-none e =
+      let ns = tableFault (call .table) ∷ byteStep ∷ [] in
+      record { table = none-at ns 0 e; step = step-none _ _ _ (none-at ns 1 e) }
+
+  pub byte-fine : Fine call → byteFault call ≡ none
+  unfolding byteFault byteStep
+  byte-fine f = step-next (call .table) byteStep refl (f .table) ∙ step-fine _ _ _ (f .step)
 
 -- ---- a received byte: a fault, or what was asked for
 
@@ -119,9 +142,7 @@ module _ (call : ByteCall) {f : ℕ} (e : f ≡ byteFault call) where
   unfolding received
   received-fault n = rw (← e) (simp (ne-eqb f none n))
 
-  pub received-fine : f ≡ none
-      → received call
-      ≡ performed (used (call .link)) (call .table) (call .structure) (call .time) (asked (used (call .link)) (call .address) (heard (call .structure) (call .byte)))
+  pub received-fine : f ≡ none → received call ≡ done call
   unfolding received
   received-fine z = rw (← e) (simp (eq-eqb f none z))
 
@@ -131,7 +152,8 @@ module _ (call : ByteCall) {f : ℕ} (e : f ≡ byteFault call) where
   received-act z ec ex =
       let c = heard (call .structure) (call .byte) in
       received-fine z
-      ∙ rw (ex, ec, asked-used (call .link) (call .address) c) (performed-used (call .link) (call .table) (call .structure) (call .time) (call .address) c)
+      ∙ rw (ex, ec, asked-used (call .link) (call .address) c)
+      (performed-used (call .link) (call .table) (call .structure) (call .time) (call .address) c)
 
 -- ---- an idle call: a fault, another phase, too early, three seconds
 

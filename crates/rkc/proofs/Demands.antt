@@ -22,18 +22,19 @@ use Rattle.line.specs.Line.{within, sent, heard, lastStructure}
 use Rattle.line.proofs.Parity.{sent-keeps}
 use Rattle.text.specs.Writing.{fits, text, writeNumber, accepted, written}
 use Rattle.phases.specs.Phases.{waiting}
+use Rattle.phases.specs.Limits.{Limited}
 use Rattle.phases.specs.declared.Act.{Act}
 use Rattle.phases.specs.declared.Act.the-variants.{Go, First, Both, More, Ended, Quit, Poll, Send, Judge}
 use Rattle.block.specs.Block.{blockNumber}
 use Rattle.block.proofs.Laws.{block-stores}
 use Rattle.rkc.specs.declared.Link.{Link}
 use Rattle.rkc.specs.State.{used, inLimits}
-use Rattle.rkc.specs.Outcome.{Step, Outcome, keeping, silent, quit, dataReply, itemSent, judged, performed, asked, handedBack}
-use Rattle.rkc.specs.Outcome.{stepFault, ByteCall, goodSettings, byteFault, received, IdleCall, elapsed, patience, timedOut, idleFault, idled}
+use Rattle.rkc.specs.Outcome.{Step, Outcome, keeping, silent, quit, dataReply, itemSent, judged, performed, asked, handedBack, done}
+use Rattle.rkc.specs.Outcome.{ByteCall, byteFault, received, IdleCall, elapsed, patience, timedOut, idleFault, idled}
 use Rattle.rkc.specs.Promise.{Steps, Does}
 use Rattle.rkc.specs.Numbers.{oneOf, byteNumbers, idleNumbers}
 use Rattle.rkc.specs.Demands.{allKeep, nextByte, OfByte, OfIdle, stateText, OfAlarms}
-use Rattle.rkc.proofs.Cases.{step-state, step-none, step-next, byte-none, received-fault, received-fine, idled-fault}
+use Rattle.rkc.proofs.Cases.{FineStep, step-none, step-fine, byte-none, byte-fine, received-fault, received-fine, idled-fault}
 use Rattle.rkc.proofs.Limits.{used-small, asked-limited, performed-limits, used-in-limits}
 use Rattle.rkc.proofs.EachReply.{received-reply, idled-reply}
 use Rattle.rkc.proofs.Given.{one-passes, byte-faults, idle-faults, act-numbers}
@@ -85,33 +86,23 @@ one-keeps structure c = rw (sent-keeps structure c)
 
 -- ---- one received byte
 
--- no fault, put together again
-no-fault : (call : ByteCall) → tableFault (call .table) ≡ none → leastBuffer ≤ length (call .buffer)
-    → goodSettings (call .address) (call .structure) ≡ true → inLimits (call .link) ≡ true → byteFault call ≡ none
-unfolding byteFault
-no-fault call z b s h =
-    step-next (call .table) (stepFault (call .link) (length (call .buffer)) (goodSettings (call .address) (call .structure))) refl z
-    ∙ step-state (call .link) (length (call .buffer)) (goodSettings (call .address) (call .structure)) b s (sym h)
-
 module _ (call : ByteCall) where
-  -- a claim about an outcome: of a fault, and of the act that is asked for
+  -- a claim about an outcome: of a fault, and of what was asked for
   by-outcome : (P : Outcome → Type 0)
       → ((byteFault call ≡ none → ⊥) → P (keeping (call .table) (handedBack (call .link) (byteFault call))))
-      → (byteFault call ≡ none → P (performed (used (call .link)) (call .table) (call .structure) (call .time) (asked (used (call .link)) (call .address) (heard (call .structure) (call .byte)))))
+      → (byteFault call ≡ none → P (done call))
       → P (received call)
   unfolding received
-  by-outcome P fault fine =
-      chosen P (eqb (byteFault call) none) (λ e. fine (eqb-true _ _ e)) (λ e. fault (eqb-false _ _ e))
+  by-outcome P fault fine = chosen P (eqb (byteFault call) none) (λ e. fine (eqb-true _ _ e)) (λ e. fault (eqb-false _ _ e))
 
-  -- where no fault is met: buffer, settings and state
-  fine : byteFault call ≡ none → (leastBuffer ≤ length (call .buffer)) × (goodSettings (call .address) (call .structure) ≡ true) × (inLimits (call .link) ≡ true)
-  fine z = step-none (call .link) (length (call .buffer)) (goodSettings (call .address) (call .structure)) (byte-none call z .1)
+  -- the act that is asked for is limited
+  limited : byteFault call ≡ none → Limited (asked (used (call .link)) (call .address) (heard (call .structure) (call .byte)))
+  limited z = asked-limited (call .link) (byte-none call z .step .limits) (call .address) (heard (call .structure) (call .byte))
 
   after : byteFault call ≡ none → inLimits (received call .step .link) ≡ true
   after z =
-      let h = fine z .2 in
       rw (received-fine call refl z)
-      (performed-limits (used (call .link)) (call .table) (call .structure) (call .time) _ (used-small (call .link) h) (asked-limited (call .link) h (call .address) (heard (call .structure) (call .byte))))
+      (performed-limits (used (call .link)) (call .table) (call .structure) (call .time) _ (used-small (call .link) (byte-none call z .step .limits)) (limited z))
 
   -- what holds of the table as it came and after a store in range in a writable item
   of-table : (P : List ℤ → Type 0) → P (call .table)
@@ -127,7 +118,7 @@ module _ (call : ByteCall) where
   numbers : byteFault call ≡ none → oneOf byteNumbers (received call .step .number) ≡ true
   numbers z =
       rw (received-fine call refl z)
-      (act-numbers (used (call .link)) (call .table) (eq-eqb _ _ (byte-none call z .0)) (call .structure) (call .time) (call .address) (heard (call .structure) (call .byte)) (asked-limited (call .link) (fine z .2) (call .address) (heard (call .structure) (call .byte))))
+      (act-numbers (used (call .link)) (call .table) (eq-eqb _ _ (byte-none call z .table)) (call .structure) (call .time) (call .address) (heard (call .structure) (call .byte)) (limited z))
 
   pub demand-1-byte : OfByte call
   demand-1-byte = record {
@@ -145,9 +136,11 @@ module _ (call : ByteCall) where
     goodStaysGood = λ g. good-after g;
     staysInLimits = λ z. after z;
     runsOn = λ z time byte.
-        let f = fine z in
-        let g = good-after (eq-eqb _ _ (byte-none call z .0)) in
-        no-fault (nextByte call time byte) (eqb-true _ _ g) (rw (length-sets (call .buffer) 0 (received call .step .reply)) (f .0)) (f .1) (after z);
+        let f = byte-none call z in
+        byte-fine (nextByte call time byte) (record {
+          table = eqb-true _ _ (good-after (eq-eqb _ _ (f .table)));
+          step = record { roomy = rw (length-sets (call .buffer) 0 (received call .step .reply)) (f .step .roomy); set = f .step .set; limits = after z };
+        });
     keepsStructure = received-reply (λ (r : List ℕ). allKeep (call .structure) r ≡ true) refl call (one-keeps (call .structure))
         (λ i six e. sent-all-keep (call .structure) (dataReply i six));
   }
@@ -168,14 +161,14 @@ module _ (call : IdleCall) where
       (λ _. early (eqb-true _ _ e)))
       (λ e. fault (eqb-false _ _ e))
 
-  idle-fine : idleFault call ≡ none → (leastBuffer ≤ length (call .buffer)) × (leb (call .structure) lastStructure ≡ true) × (inLimits (call .link) ≡ true)
+  idle-fine : idleFault call ≡ none → FineStep (call .link) (length (call .buffer)) (leb (call .structure) lastStructure)
   unfolding idleFault
   idle-fine z = step-none (call .link) (length (call .buffer)) (leb (call .structure) lastStructure) z
 
   idle-after : idleFault call ≡ none → inLimits (idled call .link) ≡ true
   unfolding inLimits
   idle-after z =
-      by-step (λ (s : Step). inLimits (s .link) ≡ true) (λ n. absurd (n z)) (λ z. refl) (λ z. used-in-limits (call .link) (idle-fine z .2))
+      by-step (λ (s : Step). inLimits (s .link) ≡ true) (λ n. absurd (n z)) (λ z. refl) (λ z. used-in-limits (call .link) (idle-fine z .limits))
 
   pub demand-1-idle : OfIdle call
   unfolding idleFault
@@ -188,7 +181,8 @@ module _ (call : IdleCall) where
     staysInLimits = λ z. idle-after z;
     runsOn = λ z time.
         let f = idle-fine z in
-        rw (length-sets (call .buffer) 0 (idled call .reply)) (step-state _ _ (leb (call .structure) lastStructure) (f .0) (f .1) (sym (idle-after z)));
+        step-fine _ _ (leb (call .structure) lastStructure)
+        (record { roomy = rw (length-sets (call .buffer) 0 (idled call .reply)) (f .roomy); set = f .set; limits = idle-after z });
     keepsStructure = idled-reply (λ (r : List ℕ). allKeep (call .structure) r ≡ true) refl call (one-keeps (call .structure));
   }
 

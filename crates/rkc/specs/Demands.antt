@@ -50,7 +50,8 @@ pub record OfByte (call : ByteCall) : Type 0 where
   -- any number but 0 leaves the table
   pub numberLeavesTable : (received call .step .number ≡ none → ⊥) → received call .table ≡ call .table
   -- each entry is unchanged or in its range; a read-only item keeps its number; a good table stays good
-  pub staysOrInRange : (j : ℕ) → (entry (received call .table) j ≡ entry (call .table) j) ⊎ (inRange j (entry (received call .table) j) ≡ true)
+  pub staysOrInRange : (j : ℕ)
+      → (entry (received call .table) j ≡ entry (call .table) j) ⊎ (inRange j (entry (received call .table) j) ≡ true)
   pub readOnlyStays : (j : ℕ) → itemAt j .writable ≡ false → entry (received call .table) j ≡ entry (call .table) j
   pub goodStaysGood : goodTable (call .table) ≡ true → goodTable (received call .table) ≡ true
   -- the state handed back is within its limits, and the next call meets no fault either
@@ -63,7 +64,12 @@ pub record OfByte (call : ByteCall) : Type 0 where
 
 abbrev pub nextIdle : IdleCall → ℕ → IdleCall
 nextIdle call time =
-    record { link = idled call .link; buffer = sets (call .buffer) 0 (idled call .reply); structure = call .structure; time = time }
+    record {
+      link = idled call .link;
+      buffer = sets (call .buffer) 0 (idled call .reply);
+      structure = call .structure;
+      time = time;
+    }
 
 -- what is claimed of it: its faults are 3, 4 and 5, and without one it gives 0 or 44
 pub record OfIdle (call : IdleCall) : Type 0 where

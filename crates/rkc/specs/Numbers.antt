@@ -32,26 +32,29 @@ byteNumbers = 0 ∷ 11 ∷ 12 ∷ 13 ∷ 14 ∷ 15 ∷ 16 ∷ 17 ∷ 18 ∷ 41 �
 abbrev enough : List ℕ
 enough = replicate leastBuffer 0
 
-abbrev onTable : List ℤ → List ℕ → ℕ → Link → ℕ → ByteCall
-onTable t buffer address l byte = record { link = l; table = t; buffer = buffer; address = address; structure = 0; time = 0; byte = byte }
+-- a byte 0 at rest, with this table, buffer and address
+abbrev lent : List ℤ → List ℕ → ℕ → ByteCall
+lent t buffer address =
+    record { link = inPhase rest; table = t; buffer = buffer; address = address; structure = 0; time = 0; byte = 0 }
 
--- a byte where the caller made no fault but perhaps in the state
+-- a byte in a state
 abbrev heardIn : Link → ℕ → ByteCall
-heardIn l byte = onTable startValues enough 1 l byte
+heardIn l byte =
+    record { link = l; table = startValues; buffer = enough; address = 1; structure = 0; time = 0; byte = byte }
 
 -- a block of three characters at most whose BCC is due and is 0
 abbrev due : ℕ → ℕ → ℕ → ℕ → Link
 due count a b c = block bccDue count 0 false (a ∷ b ∷ c ∷ 0 ∷ 0 ∷ 0 ∷ 0 ∷ 0 ∷ [])
 
--- a call for each number, in the order of the two lists: no table; PR at 0, which is from 500 on; no buffer; address 100; phase 10.
--- A byte at rest; a marked block; BCC 1 for 0; no text; no item; "PB" with more than six characters, and with none; "M1" and
--- "PR" with "0". ENQ after one character; no item polled; a byte that isn't awaited; ACK after the last item
+-- A call for each number, in the order of the two lists. The faults: no table; PR at 0, which is from 500 on; no buffer; address
+-- 100; phase 10. The others: a byte at rest; a marked block; BCC 1 for 0; no text; no item; "PB" with more than six characters,
+-- and with none; "M1" and "PR" with "0"; ENQ after one character; no item polled; a byte that isn't awaited; ACK after the last item
 unfoldable pub byteExamples : List ByteCall
 byteExamples =
-    onTable [] enough 1 (inPhase rest) 0
-    ∷ onTable (replicate items (pos 0)) enough 1 (inPhase rest) 0
-    ∷ onTable startValues [] 1 (inPhase rest) 0
-    ∷ onTable startValues enough 100 (inPhase rest) 0
+    lent [] enough 1
+    ∷ lent (replicate items (pos 0)) enough 1
+    ∷ lent startValues [] 1
+    ∷ lent startValues enough 100
     ∷ heardIn (inPhase 10) 0
     ∷ heardIn (inPhase rest) 0
     ∷ heardIn (block bccDue 0 0 true noneKept) 0

@@ -132,8 +132,8 @@ handedBack l number = record { link = l; number = number; reply = [] }
 
 -- ---- one received byte
 
--- what the call is handed: the state; the table and the reply buffer as they came; the device's address, the line's structure, the
--- present time and the byte
+-- what the call is handed: the state; the table and the reply buffer as they came; the device's address, the line's structure,
+-- the present time and the byte
 pub record ByteCall : Type 0 where
   pub link : Link
   pub table : List ℤ
@@ -155,13 +155,15 @@ byteFault call =
     ∷ stepFault (call .link) (length (call .buffer)) (goodSettings (call .address) (call .structure))
     ∷ [])
 
--- where the caller made no fault, what the byte asks for is done
+-- what the byte asks for is done
+abbrev pub done : ByteCall → Outcome
+done call =
+    performed (used (call .link)) (call .table) (call .structure) (call .time)
+    (asked (used (call .link)) (call .address) (heard (call .structure) (call .byte)))
+
+-- that is so unless the caller made a fault, which leaves all
 unfoldable pub received : ByteCall → Outcome
-received call =
-    unlessMet (byteFault call)
-    (λ number. keeping (call .table) (handedBack (call .link) number))
-    (performed (used (call .link)) (call .table) (call .structure) (call .time)
-    (asked (used (call .link)) (call .address) (heard (call .structure) (call .byte))))
+received call = unlessMet (byteFault call) (λ number. keeping (call .table) (handedBack (call .link) number)) (done call)
 
 -- ---- an idle call
 

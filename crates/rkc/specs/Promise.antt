@@ -8,7 +8,8 @@ use lib.Seq.{sets}
 use Rattle.rkc.specs.declared.Stepped.{Stepped}
 use Rattle.rkc.specs.Outcome.{Step, Outcome, ByteCall, received, IdleCall, idled}
 
--- the state, the number and the reply's length are handed back; the reply stands at the buffer's front, and the bytes past it stay
+-- the state, the number and the reply's length are handed back; the reply stands at the buffer's front, and the bytes past it
+-- stay
 pub record Steps (s : Step) (r : Stepped) (before after : List ℕ) : Type 0 where
   pub back : r ≡ record { link = s .link; number = s .number; len = length (s .reply) }
   pub sent : after ≡ sets before 0 (s .reply)

@@ -2,7 +2,7 @@
 use borrow.Author.Needs.{needs}
 use mathlib.Core.Path.{refl, sym, _∙_}
 use Rattle.rkc.specs.Outcome.{ByteCall, byteFault}
-use Rattle.rkc.proofs.Cases.{does-by, step-none, byte-none, received-fault, received-act}
+use Rattle.rkc.proofs.Cases.{does-by, byte-none, received-fault, received-act}
 use Rattle.rkc.proofs.Limits.{act-limited}
 use Rattle.rkc.proofs.Link.byte.Statement.{statement}
 use Rattle.rkc.proofs.Link.byte.Tie as tie
@@ -42,8 +42,8 @@ unfolding byteFault
 perform-requires c κs =
     let looked = c .before .before .before .before .before .before in
     let none = sym (looked .byte-fault .ensures) ∙ c .before .before .before .before .before .if1 .left in
-    let fine = step-none _ _ _ (byte-none (called (looked .before .before .before)) none .1) in
-    (fine .0, act-limited _ (fine .2) _ _ (c .before .before .decide .ensures))
+    let fine = byte-none (called (looked .before .before .before)) none .step in
+    (fine .roomy, act-limited _ (fine .limits) _ _ (c .before .before .decide .ensures))
 
 same-length-2 : tie.Need-same-length-2
 same-length-2 c = search needs

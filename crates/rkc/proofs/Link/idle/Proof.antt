@@ -25,7 +25,7 @@ elapsed-requires c κs = search needs
 
 quit-requires : tie.Need-quit-requires
 quit-requires c κs =
-    let room = step-none _ _ _ (sym (c .before .before .before .before .before .before .idle-fault .ensures) ∙ c .before .before .before .before .before .if1 .left) .0 in
+    let room = step-none _ _ _ (sym (c .before .before .before .before .before .before .idle-fault .ensures) ∙ c .before .before .before .before .before .if1 .left) .roomy in
     omega (arith, room)
 
 same-length : tie.Need-same-length
