@@ -86,9 +86,9 @@ module _ (l : Link) (room : ℕ) (settings : Bool) where
   unfolding stepFault
   step-setting h s = simp (le-leb leastBuffer room h, s)
 
-  pub step-state : {b : Bool} → leastBuffer ≤ room → settings ≡ true → b ≡ inLimits l → stepFault l room settings ≡ unless b badState
+  pub step-outside : leastBuffer ≤ room → settings ≡ true → inLimits l ≡ false → stepFault l room settings ≡ badState
   unfolding stepFault
-  step-state {b} h s e = simp (le-leb leastBuffer room h, s, ← e) (last-met (unless b badState))
+  step-outside h s e = simp (le-leb leastBuffer room h, s, e)
 
 module _ (t : List ℤ) (step : ℕ) {f : ℕ} (e : f ≡ tableFault t) where
   pub table-first : (f ≡ none → ⊥) → firstMet (tableFault t ∷ step ∷ []) ≡ f
@@ -114,7 +114,8 @@ step-none l room settings e =
     }
 
 pub step-fine : (l : Link) (room : ℕ) (settings : Bool) → FineStep l room settings → stepFault l room settings ≡ none
-step-fine l room settings f = step-state l room settings (f .roomy) (f .set) (sym (f .limits))
+unfolding stepFault
+step-fine l room settings f = simp (le-leb leastBuffer room (f .roomy), f .set, f .limits)
 
 -- and what a byte call is
 pub record Fine (call : ByteCall) : Type 0 where

@@ -1,22 +1,22 @@
 -- Demand 1 for the RKC line, and that a link runs for ever and answers in the line's structure: theorems about every call. Their
 -- claims stand in specs/Demands.antt.
 -- Assumes nothing.
-use mathlib.Core.Path.{_≡_, refl, sym, subst, _∙_}
+use mathlib.Core.Path.{_≡_, refl, sym, subst}
 use mathlib.Core.Logic.{_⊎_, inl}
 use mathlib.Core.Bool.{Bool, true, false, not, _&&_}
 use mathlib.Core.List.{List, [], _∷_, map}
-use Prim.Native.Nat.{ℕ, _≤_}
+use Prim.Native.Nat.{ℕ}
 use borrow.Author.Tests.{eq-eqb, eqb-true, eqb-false, not-true}
 use lib.Dec.{eqb, leb}
 use lib.IntN.{ℤ}
 use lib.ListN.{length}
 use lib.Seq.{length-sets}
 use lib.Signed.{leZ}
-use Rattle.numbers.specs.Numbers.{none, leastBuffer}
+use Rattle.numbers.specs.Numbers.{none}
 use Rattle.numbers.proofs.Tests.{contrary, chosen}
 use Rattle.items.specs.ItemList.{itemAt, inRange}
 use Rattle.table.specs.Table as table
-use Rattle.table.specs.Table.{tableFault, goodTable, entry, stored}
+use Rattle.table.specs.Table.{goodTable, entry, stored}
 use Rattle.table.proofs.Laws.{good-stored, stored-in-range, stored-read-only, answered-AA, answered-AB}
 use Rattle.line.specs.Line.{within, sent, heard, lastStructure}
 use Rattle.line.proofs.Parity.{sent-keeps}

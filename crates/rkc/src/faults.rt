@@ -79,17 +79,21 @@ impl Link {
         }
     }
 
-    // What every step looks at: buffer, settings, state; 0 for no fault.
+    // What every step looks at, in this order: buffer, settings, state; 0 for no fault.
     fn step_fault(self, room: usize, settings: bool) -> u8
         ensures { λ r. ⌜ r ≡ stepFault self room settings ⌝ }
     {
+        let limits = self.in_limits();
         if room < LEAST_BUFFER {
             return SHORT_BUFFER;
         }
         if !settings {
             return BAD_SETTING;
         }
-        if self.in_limits() { 0 } else { BAD_STATE }
+        if !limits {
+            return BAD_STATE;
+        }
+        0
     }
 
     // The caller's fault in a byte call: the table is looked at first.

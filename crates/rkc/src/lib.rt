@@ -14,6 +14,7 @@ ghost use Rattle.rkc.specs.State.{inPhase};
 ghost use Rattle.rkc.specs.Promise.{Leads, Idles};
 use phases::REST;
 use phases::WAITING;
+use replies::handed_back;
 use replies::quit;
 use replies::silent;
 use states::in_phase;
@@ -71,17 +72,14 @@ impl Link {
         }) r (now (reply .exit)) (now (table .exit)) ⌝ }
     {
         let number = self.byte_fault(&table[..], reply.len(), address, structure);
-        if number != 0 {
-            return Stepped {
-                link: self,
-                number,
-                len: 0,
-            };
+        if number == 0 {
+            let kept = self.kept;
+            let c = line::heard(structure, byte);
+            let act = phases::decide(self.phase, kept[0], kept[1], self.item, address, c);
+            self.perform(act, table, reply, structure, time)
+        } else {
+            handed_back(self, number)
         }
-        let kept = self.kept;
-        let c = line::heard(structure, byte);
-        let act = phases::decide(self.phase, kept[0], kept[1], self.item, address, c);
-        self.perform(act, table, reply, structure, time)
     }
 
     // No byte came: a host that is waited on for three seconds or more is told EOT.
@@ -92,11 +90,7 @@ impl Link {
     {
         let number = self.idle_fault(reply.len(), structure);
         if number != 0 {
-            return Stepped {
-                link: self,
-                number,
-                len: 0,
-            };
+            return handed_back(self, number);
         }
         if self.phase == WAITING && PATIENCE <= elapsed(time, self.time) {
             return quit(reply, structure, TIMED_OUT);

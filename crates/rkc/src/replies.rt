@@ -15,14 +15,21 @@ use line::ETX;
 use line::STX;
 use phases::REST;
 
+// Nothing is sent, and a number is given.
+pub(crate) fn handed_back(state: Link, number: u8) -> Stepped
+    ensures { λ r. ⌜ r ≡ record { link = state; number = number; len = 0 } ⌝ }
+{
+    Stepped {
+        link: state,
+        number,
+        len: 0,
+    }
+}
+
 pub(crate) fn silent(link: Link) -> Stepped
     ensures { λ r. ⌜ r ≡ record { link = link; number = 0; len = 0 } ⌝ }
 {
-    Stepped {
-        link,
-        number: 0,
-        len: 0,
-    }
+    handed_back(link, 0)
 }
 
 // The characters go to the buffer's front, each as it is sent.
@@ -60,24 +67,12 @@ pub(crate) fn quit(reply: &mut [u8], structure: u8, number: u8) -> Stepped
     send_one(reply, structure, EOT, in_phase(REST), number)
 }
 
-// An item's data reply about its six characters.
+// An item's data reply about its six characters. The BCC goes over what stands between STX and itself.
 pub(crate) fn data_reply(i: usize, six: [u8; 6]) -> [u8; 11]
     ensures { λ r. ⌜ r ≡ dataReply i six ⌝ }
 {
     let name = items::identifier(i);
-    let message = [
-        name[0],
-        name[1],
-        six[0],
-        six[1],
-        six[2],
-        six[3],
-        six[4],
-        six[5],
-        ETX,
-    ];
-    let sum = line::bcc(&message);
-    [
+    let mut reply = [
         STX,
         name[0],
         name[1],
@@ -88,6 +83,8 @@ pub(crate) fn data_reply(i: usize, six: [u8; 6]) -> [u8; 11]
         six[4],
         six[5],
         ETX,
-        sum,
-    ]
+        0,
+    ];
+    reply[10] = line::bcc(&reply[1..10]);
+    reply
 }

@@ -16,15 +16,6 @@ called s =
 byte-fault-requires : tie.Need-byte-fault-requires
 byte-fault-requires c κs = search needs
 
-same-length : tie.Need-same-length
-same-length c = search needs
-
-returns : tie.Need-returns
-unfolding byteFault
-returns c =
-    does-by (received-fault (called (c .before .before .before .before)) (c .before .byte-fault .ensures) (c .if1 .taken))
-    (record { steps = record { back = refl; sent = refl }; left = refl })
-
 heard-requires : tie.Need-heard-requires
 heard-requires c κs = search needs
 
@@ -40,13 +31,30 @@ decide-requires c κs = search needs
 perform-requires : tie.Need-perform-requires
 unfolding byteFault
 perform-requires c κs =
-    let looked = c .before .before .before .before .before .before in
-    let none = sym (looked .byte-fault .ensures) ∙ c .before .before .before .before .before .if1 .left in
+    let asked = c .before .before in
+    let looked = asked .before .before .before .before in
+    let none = sym (looked .byte-fault .ensures) ∙ asked .before .before .before .if1 .taken in
     let fine = byte-none (called (looked .before .before .before)) none .step in
-    (fine .roomy, act-limited _ (fine .limits) _ _ (c .before .before .decide .ensures))
+    (fine .roomy, act-limited _ (fine .limits) _ _ (asked .decide .ensures))
+
+handed-back-requires : tie.Need-handed-back-requires
+handed-back-requires c κs = search needs
+
+same-length : tie.Need-same-length
+same-length c = search needs
 
 same-length-2 : tie.Need-same-length-2
 same-length-2 c = search needs
+
+returns : tie.Need-returns
+unfolding byteFault
+returns c =
+    let asked = c .before .before .before .before .before .before in
+    let looked = asked .before .before .before .before in
+    let none = asked .before .before .before .if1 .taken in
+    does-by
+    (received-act (called (looked .before .before .before)) (looked .byte-fault .ensures) none (asked .before .heard .ensures) (asked .decide .ensures))
+    (c .before .before .before .perform .ensures)
 
 same-length-3 : tie.Need-same-length-3
 same-length-3 c = search needs
@@ -54,24 +62,23 @@ same-length-3 c = search needs
 returns-2 : tie.Need-returns-2
 unfolding byteFault
 returns-2 c =
-    let decided = c .before .before .before .before .before .before in
-    let looked = decided .before .before .before .before in
-    does-by
-    (received-act (called (looked .before .before .before)) (looked .byte-fault .ensures) (decided .before .before .before .if1 .left) (decided .before .heard .ensures) (decided .decide .ensures))
-    (c .before .before .before .perform .ensures)
+    let looked = c .before .before in
+    does-by (received-fault (called (looked .before .before .before)) (looked .byte-fault .ensures) (c .before .if1 .left))
+    (record { steps = record { back = c .handed-back .ensures; sent = refl }; left = refl })
 
 pub byte-spec : {M : Type 1} → statement M
 byte-spec =
     tie.close
     (tie.spec
     byte-fault-requires
-    same-length
-    returns
     heard-requires
     array-read-decide
     array-read-decide-2
     decide-requires
     perform-requires
+    handed-back-requires
+    same-length
     same-length-2
+    returns
     same-length-3
     returns-2)

@@ -15,10 +15,15 @@ called s = let a = s .args in record { link = a .self; buffer = a .reply .now; s
 idle-fault-requires : tie.Need-idle-fault-requires
 idle-fault-requires c κs = search needs
 
+handed-back-requires : tie.Need-handed-back-requires
+handed-back-requires c κs = search needs
+
 returns : tie.Need-returns
 unfolding idleFault
 returns c =
-    steps-by (idled-fault (called (c .before .before .before)) (c .before .idle-fault .ensures) (c .if1 .taken)) (record { back = refl; sent = refl })
+    let looked = c .before .before in
+    steps-by (idled-fault (called (looked .before .before)) (looked .idle-fault .ensures) (c .before .if1 .taken))
+    (record { back = c .handed-back .ensures; sent = refl })
 
 elapsed-requires : tie.Need-elapsed-requires
 elapsed-requires c κs = search needs
@@ -62,6 +67,7 @@ idle-spec =
     tie.close
     (tie.spec
     idle-fault-requires
+    handed-back-requires
     returns
     elapsed-requires
     quit-requires

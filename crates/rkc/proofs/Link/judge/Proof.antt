@@ -1,6 +1,6 @@
 -- `Link::judge` meets its contract: ACK with the item stored, or NAK. Assumes nothing.
 use borrow.Author.Needs.{needs}
-use mathlib.Core.Path.{refl, ap, _∙_}
+use mathlib.Core.Path.{refl, ap₂, _∙_}
 use Rattle.table.specs.Table.{stored}
 use Rattle.rkc.proofs.Cases.{does-by, judged-stored, judged-refused}
 use Rattle.rkc.proofs.Link.judge.Statement.{statement}
@@ -42,7 +42,7 @@ returns c =
     does-by (judged-stored _ _ (s .self) _ (c .before .before .before .before .before .before .before .before .before .before .before .judge .ensures) (c .before .before .before .before .before .before .before .before .before .i .given .1))
     (record {
       steps = record { back = c .before .before .send-one .ensures .back ∙ rw (c .before .before .before .in-phase .ensures); sent = c .before .before .send-one .ensures .sent };
-      left = c .before .before .before .before .before .before .store .ensures ∙ ap (stored (s .table .now) (c .before .before .before .before .before .before .before .before .before .i .given .0 .0)) (search needs);
+      left = c .before .before .before .before .before .before .store .ensures ∙ ap₂ (stored (s .table .now)) refl (search needs);
     })
 
 same-length-3 : tie.Need-same-length-3
