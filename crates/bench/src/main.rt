@@ -12,7 +12,7 @@ const TIME: u32 = 0;
 
 // One byte, and its reply at once: a host that waits for it sends nothing before.
 fn hear(link: Link, table: &mut [i32], byte: u8) -> Link {
-    let mut reply = [0u8; 256];
+    let mut reply = [0u8; numbers::LEAST_BUFFER];
     let stepped = link.byte(table, &mut reply, ADDRESS, STRUCTURE, TIME, byte);
     let len = stepped.len;
     io::write_all(STDOUT_FILENO, &reply[..len]);
@@ -62,7 +62,7 @@ fn serve(table: &mut [i32]) {
 }
 
 fn main() {
-    let mut table = [0i32; 12];
+    let mut table = [0i32; items::ITEMS];
     table::start(&mut table);
     serve(&mut table);
 }

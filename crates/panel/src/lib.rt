@@ -65,7 +65,8 @@ pub extern "C" fn vb_start_table(table: &mut [i32]) -> u32
 // The link starts at rest.
 #[no_mangle]
 pub extern "C" fn vb_start_link(state: &mut [u8]) -> u32
-    ensures { λ r. ⌜ Lent (linkStartNumber (now (state .entry))) (linkStart (now (state .entry))) r (now (state .exit)) ⌝ }
+    ensures { λ r. ⌜ Lent (linkStartNumber (now (state .entry))) (linkStart (now (state .entry)))
+        r (now (state .exit)) ⌝ }
 {
     if state.len() != state::STATE_BYTES {
         return BAD_STATE;
@@ -128,7 +129,8 @@ pub extern "C" fn vb_rtu(table: &mut [i32], reply: &mut [u8], address: u8, frame
 // The firmware sets an item, by its number from 1.
 #[no_mangle]
 pub extern "C" fn vb_put(table: &mut [i32], item: u32, value: i32) -> u32
-    ensures { λ r. ⌜ Lent (putNumber (now (table .entry)) item value) (putTable (now (table .entry)) item value) r (now (table .exit)) ⌝ }
+    ensures { λ r. ⌜ Lent (putNumber (now (table .entry)) item value) (putTable (now (table .entry)) item value)
+        r (now (table .exit)) ⌝ }
 {
     table::put(table, item, value) as u32
 }
@@ -160,8 +162,8 @@ fn put_six(chars: &mut [u8], six: [u8; 6])
 // Number text is written, where there is room for six characters.
 #[no_mangle]
 pub extern "C" fn vb_write_text(decimals: u8, value: i32, chars: &mut [u8]) -> u32
-    ensures { λ r. ⌜ Lent (textNumber decimals value (now (chars .entry))) (textLeft decimals value (now (chars .entry)))
-        r (now (chars .exit)) ⌝ }
+    ensures { λ r. ⌜ Lent (textNumber decimals value (now (chars .entry)))
+        (textLeft decimals value (now (chars .entry))) r (now (chars .exit)) ⌝ }
 {
     if chars.len() < text::WIDTH {
         return numbers::SHORT_BUFFER as u32;

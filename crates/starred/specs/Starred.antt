@@ -7,7 +7,7 @@ use Prim.Native.String.{String}
 use lib.Dec.{eqb}
 use lib.IntN.{ℤ, pos}
 use lib.ListN.{getD, replicate}
-use Rattle.numbers.specs.Numbers.{none, leastBuffer}
+use Rattle.numbers.specs.Numbers.{leastBuffer, unlessMet}
 use Rattle.sign.specs.Sign.{minus}
 use Rattle.items.specs.ItemList.{found, placeFound}
 use Rattle.table.specs.Table.{startValues, entry}
@@ -122,19 +122,15 @@ blockBytes chars = EOT ∷ ascii "01" ++ STX ∷ chars ++ ETX ∷ bcc (chars ++ 
 unfoldable pub placeOf : List ℕ → ℕ
 placeOf identifier = placeFound (found (getD identifier 0 0) (getD identifier 1 0))
 
--- a result where no number is given back, else the number
-unfoldable pub unlessNumber : ℕ → Result → Result
-unlessNumber n r = cond (eqb n none) r (number n)
-
 -- the item has its value once the block is answered by ACK
 unfoldable pub ofBlock : ℕ → Outcome → Result
 ofBlock i o = cond (eqb (getD (o .step .reply) 0 0) ACK) (value (entry (o .table) i)) (number (o .step .number))
 
 unfoldable pub ofWritten : Written → Result
-ofWritten w = unlessNumber (w .number) (text (w .chars))
+ofWritten w = unlessMet (w .number) number (text (w .chars))
 
 unfoldable pub ofFrame : modbus.Outcome → Result
-ofFrame o = unlessNumber (o .number) (reply (o .reply))
+ofFrame o = unlessMet (o .number) number (reply (o .reply))
 
 unfoldable pub made : Deed → Result
 made (block item chars) = ofBlock (placeOf (ascii item)) (after start (blockBytes (ascii item ++ ascii chars)))

@@ -58,8 +58,8 @@ pub fn rtu(address: u8, frame: &[u8]) {
     show::byte(address);
     show::text(b":");
     show::bytes(frame);
-    let mut table = [0i32; 12];
-    let mut reply = [0u8; 256];
+    let mut table = [0i32; items::ITEMS];
+    let mut reply = [0u8; numbers::LEAST_BUFFER];
     table::start(&mut table);
     let answered = rtu::frame(&mut table, &mut reply, address, frame);
     show_answer(answered, &reply, false);
@@ -75,7 +75,7 @@ fn exchange(table: &mut [i32], reply: &mut [u8], address: u8, request: &[u8]) ->
 }
 
 fn show_exchange(table: &mut [i32], address: u8, request: &[u8], bare: bool) {
-    let mut reply = [0u8; 256];
+    let mut reply = [0u8; numbers::LEAST_BUFFER];
     let answered = exchange(table, &mut reply, address, request);
     show_answer(answered, &reply, bare);
 }
@@ -86,7 +86,7 @@ pub fn ask(address: u8, request: &[u8]) {
     show::text(b":");
     show::byte(address);
     show::bytes(request);
-    let mut table = [0i32; 12];
+    let mut table = [0i32; items::ITEMS];
     table::start(&mut table);
     show_exchange(&mut table, address, request, false);
 }
@@ -100,7 +100,7 @@ pub fn ask_with_m1(address: u8, value: i32, request: &[u8]) {
     show::text(b":");
     show::byte(address);
     show::bytes(request);
-    let mut table = [0i32; 12];
+    let mut table = [0i32; items::ITEMS];
     table::start(&mut table);
     table::put(&mut table, M1, value);
     show_exchange(&mut table, address, request, false);
@@ -109,7 +109,7 @@ pub fn ask_with_m1(address: u8, value: i32, request: &[u8]) {
 pub fn pdu(request: &[u8]) {
     show::text(b"pdu");
     show::bytes(request);
-    let mut table = [0i32; 12];
+    let mut table = [0i32; items::ITEMS];
     table::start(&mut table);
     show_exchange(&mut table, 1, request, true);
 }
@@ -119,8 +119,8 @@ pub fn register(value: i32) {
     show::text(b"register");
     show::value(value);
     show::arrow();
-    let mut table = [0i32; 12];
-    let mut reply = [0u8; 256];
+    let mut table = [0i32; items::ITEMS];
+    let mut reply = [0u8; numbers::LEAST_BUFFER];
     table::start(&mut table);
     table::put(&mut table, S1, value);
     exchange(&mut table, &mut reply, 1, b"\x03\x00\x0B\x00\x01");

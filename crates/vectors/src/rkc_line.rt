@@ -19,7 +19,7 @@ const M1: u32 = 1;
 
 // The bytes come one after another, at address 1, in structure 0, at time 0. Replies are shown as they come, or not at all.
 fn hear(link: Link, table: &mut [i32], bytes: &[u8], shown: bool) -> Stepped {
-    let mut reply = [0u8; 256];
+    let mut reply = [0u8; numbers::LEAST_BUFFER];
     let mut last = Stepped {
         link,
         number: 0,
@@ -47,7 +47,7 @@ fn bring(place: usize, chars: &[u8]) -> Brought {
     let name = items::identifier(place);
     let front = [EOT, b'0', b'1', STX, name[0], name[1]];
     let end = [ETX, name[0] ^ name[1] ^ line::bcc(chars) ^ ETX];
-    let mut table = [0i32; 12];
+    let mut table = [0i32; items::ITEMS];
     table::start(&mut table);
     let opened = hear(Link::start(), &mut table, &front, false);
     let told = hear(opened.link, &mut table, chars, false);
@@ -112,7 +112,7 @@ pub fn poll_m1(value: i32) {
     show::text(b"poll M1");
     show::value(value);
     show::arrow();
-    let mut table = [0i32; 12];
+    let mut table = [0i32; items::ITEMS];
     table::start(&mut table);
     table::put(&mut table, M1, value);
     let poll = [EOT, b'0', b'1', b'M', b'1', ENQ];
@@ -124,7 +124,7 @@ pub fn bench(bytes: &[u8]) {
     show::text(b"bench");
     show::bytes(bytes);
     show::arrow();
-    let mut table = [0i32; 12];
+    let mut table = [0i32; items::ITEMS];
     table::start(&mut table);
     hear(Link::start(), &mut table, bytes, true);
     show::end_of_line();
