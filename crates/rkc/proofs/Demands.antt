@@ -2,7 +2,7 @@
 -- claims stand in specs/Demands.antt.
 -- Assumes nothing.
 use mathlib.Core.Path.{_≡_, refl, sym, subst}
-use mathlib.Core.Logic.{_⊎_, inl}
+use mathlib.Core.Logic.{_≢_, _⊎_, inl}
 use mathlib.Core.Bool.{Bool, true, false, not, _&&_}
 use mathlib.Core.List.{List, [], _∷_, map}
 use Prim.Native.Nat.{ℕ}
@@ -25,11 +25,10 @@ use Rattle.phases.specs.Phases.{waiting}
 use Rattle.phases.specs.Limits.{Limited}
 use Rattle.phases.specs.declared.Act.{Act}
 use Rattle.phases.specs.declared.Act.the-variants.{Go, First, Both, More, Ended, Quit, Poll, Send, Judge}
-use Rattle.block.specs.Block.{blockNumber}
 use Rattle.block.proofs.Laws.{block-stores}
 use Rattle.rkc.specs.declared.Link.{Link}
 use Rattle.rkc.specs.State.{used, inLimits}
-use Rattle.rkc.specs.Outcome.{Step, Outcome, keeping, silent, quit, dataReply, itemSent, judged, performed, asked, handedBack, done}
+use Rattle.rkc.specs.Outcome.{Step, Outcome, keeping, silent, quit, dataReply, itemSent, refusing, judged, performed, asked, handedBack, done}
 use Rattle.rkc.specs.Outcome.{ByteCall, byteFault, received, IdleCall, elapsed, patience, timedOut, idleFault, idled}
 use Rattle.rkc.specs.Promise.{Steps, Does}
 use Rattle.rkc.specs.Numbers.{oneOf, byteNumbers, idleNumbers}
@@ -62,18 +61,18 @@ module _ (l : Link) (t : List ℤ) (structure time : ℕ) where
       → P (performed l t structure time x .table)
   leaves x P same new =
       kept-or-judged x (λ (o : Outcome). P (o .table)) (λ s. same)
-      (λ c. chosen (λ (o : Outcome). P (o .table)) (eqb (blockNumber (l .mark) (l .bcc) (l .count) (l .kept) c) none)
+      (λ c. chosen (λ (o : Outcome). P (o .table)) (eqb (refusing l c) none)
       (λ e. let s = block-stores (l .mark) (l .bcc) (l .count) (l .kept) c (eqb-true _ _ e) in new _ _ (s .writable) (s .ranged))
       (λ _. same))
 
   -- where a number is given the table stays
   abbrev StaysIfMet : Outcome → Type 0
-  StaysIfMet o = (o .step .number ≡ none → ⊥) → o .table ≡ t
+  StaysIfMet o = o .step .number ≢ none → o .table ≡ t
 
   numbered-stays : (x : Act) → StaysIfMet (performed l t structure time x)
   numbered-stays x =
       kept-or-judged x StaysIfMet (λ s _. refl)
-      (λ c. chosen StaysIfMet (eqb (blockNumber (l .mark) (l .bcc) (l .count) (l .kept) c) none) (λ _ h. absurd (h refl)) (λ _ _. refl))
+      (λ c. chosen StaysIfMet (eqb (refusing l c) none) (λ _ h. absurd (h refl)) (λ _ _. refl))
 
 -- ---- what is sent
 
@@ -89,7 +88,7 @@ one-keeps structure c = rw (sent-keeps structure c)
 module _ (call : ByteCall) where
   -- a claim about an outcome: of a fault, and of what was asked for
   by-outcome : (P : Outcome → Type 0)
-      → ((byteFault call ≡ none → ⊥) → P (keeping (call .table) (handedBack (call .link) (byteFault call))))
+      → (byteFault call ≢ none → P (keeping (call .table) (handedBack (call .link) (byteFault call))))
       → (byteFault call ≡ none → P (done call))
       → P (received call)
   unfolding received
@@ -102,7 +101,9 @@ module _ (call : ByteCall) where
   after : byteFault call ≡ none → inLimits (received call .step .link) ≡ true
   after z =
       rw (received-fine call refl z)
-      (performed-limits (used (call .link)) (call .table) (call .structure) (call .time) _ (used-small (call .link) (byte-none call z .step .limits)) (limited z))
+      (performed-limits (used (call .link)) (call .table) (call .structure) (call .time) _
+      (used-small (call .link) (byte-none call z .step .limits))
+      (limited z))
 
   -- what holds of the table as it came and after a store in range in a writable item
   of-table : (P : List ℤ → Type 0) → P (call .table)
@@ -118,7 +119,8 @@ module _ (call : ByteCall) where
   numbers : byteFault call ≡ none → oneOf byteNumbers (received call .step .number) ≡ true
   numbers z =
       rw (received-fine call refl z)
-      (act-numbers (used (call .link)) (call .table) (eq-eqb _ _ (byte-none call z .table)) (call .structure) (call .time) (call .address) (heard (call .structure) (call .byte)) (limited z))
+      (act-numbers (used (call .link)) (call .table) (eq-eqb _ _ (byte-none call z .table)) (call .structure) (call .time)
+      (call .address) (heard (call .structure) (call .byte)) (limited z))
 
   pub demand-1-byte : OfByte call
   demand-1-byte = record {
@@ -127,19 +129,28 @@ module _ (call : ByteCall) where
         (q .steps .back, q .steps .sent, q .left);
     faultNumbers = λ n. rw (received-fault call refl n) (byte-faults call n);
     otherNumbers = λ z. numbers z;
-    noFaultNumber = λ z. not-true _ (one-passes (λ (n : ℕ). not (within 1 9 n)) byteNumbers (received call .step .number) refl (numbers z));
+    noFaultNumber = λ z.
+        not-true _ (one-passes (λ (n : ℕ). not (within 1 9 n)) byteNumbers (received call .step .number) refl (numbers z));
     alwaysRoom = λ z e. contrary (sym (rw e at (numbers z)));
-    numberLeavesTable = by-outcome (StaysIfMet (call .link) (call .table) (call .structure) (call .time)) (λ _ _. refl) (λ _. numbered-stays (used (call .link)) (call .table) (call .structure) (call .time) _);
-    staysOrInRange = λ j. of-table (λ (u : List ℤ). (entry u j ≡ entry (call .table) j) ⊎ (inRange j (entry u j) ≡ true)) (inl refl)
+    numberLeavesTable = by-outcome (λ (o : Outcome). o .step .number ≢ none → o .table ≡ call .table) (λ _ _. refl)
+        (λ _. numbered-stays (used (call .link)) (call .table) (call .structure) (call .time) _);
+    staysOrInRange = λ j.
+        of-table (λ (u : List ℤ). (entry u j ≡ entry (call .table) j) ⊎ (inRange j (entry u j) ≡ true)) (inl refl)
         (λ i v w r. stored-in-range (call .table) i j v r);
-    readOnlyStays = λ j r. of-table (λ (u : List ℤ). entry u j ≡ entry (call .table) j) refl (λ i v w g. stored-read-only (call .table) i j v w r);
+    readOnlyStays = λ j r.
+        of-table (λ (u : List ℤ). entry u j ≡ entry (call .table) j) refl
+        (λ i v w g. stored-read-only (call .table) i j v w r);
     goodStaysGood = λ g. good-after g;
     staysInLimits = λ z. after z;
     runsOn = λ z time byte.
         let f = byte-none call z in
         byte-fine (nextByte call time byte) (record {
           table = eqb-true _ _ (good-after (eq-eqb _ _ (f .table)));
-          step = record { roomy = rw (length-sets (call .buffer) 0 (received call .step .reply)) (f .step .roomy); set = f .step .set; limits = after z };
+          step = record {
+            roomy = rw (length-sets (call .buffer) 0 (received call .step .reply)) (f .step .roomy);
+            set = f .step .set;
+            limits = after z;
+          };
         });
     keepsStructure = received-reply (λ (r : List ℕ). allKeep (call .structure) r ≡ true) refl call (one-keeps (call .structure))
         (λ i six e. sent-all-keep (call .structure) (dataReply i six));
@@ -149,7 +160,7 @@ module _ (call : ByteCall) where
 
 module _ (call : IdleCall) where
   by-step : (P : Step → Type 0)
-      → ((idleFault call ≡ none → ⊥) → P (handedBack (call .link) (idleFault call)))
+      → (idleFault call ≢ none → P (handedBack (call .link) (idleFault call)))
       → (idleFault call ≡ none → P (quit (call .structure) timedOut))
       → (idleFault call ≡ none → P (silent (used (call .link))))
       → P (idled call)
@@ -168,7 +179,8 @@ module _ (call : IdleCall) where
   idle-after : idleFault call ≡ none → inLimits (idled call .link) ≡ true
   unfolding inLimits
   idle-after z =
-      by-step (λ (s : Step). inLimits (s .link) ≡ true) (λ n. absurd (n z)) (λ z. refl) (λ z. used-in-limits (call .link) (idle-fine z .limits))
+      by-step (λ (s : Step). inLimits (s .link) ≡ true) (λ n. absurd (n z)) (λ z. refl)
+      (λ z. used-in-limits (call .link) (idle-fine z .limits))
 
   pub demand-1-idle : OfIdle call
   unfolding idleFault
@@ -177,7 +189,8 @@ module _ (call : IdleCall) where
         let q = subst (λ (s : Step). Steps s r (call .buffer) after) (idled-fault call refl n) p in
         (q .back, q .sent);
     faultNumbers = λ n. rw (idled-fault call refl n) (idle-faults call n);
-    otherNumbers = λ z. by-step (λ (s : Step). oneOf idleNumbers (s .number) ≡ true) (λ n. absurd (n z)) (λ _. refl) (λ _. refl);
+    otherNumbers = λ z.
+        by-step (λ (s : Step). oneOf idleNumbers (s .number) ≡ true) (λ n. absurd (n z)) (λ _. refl) (λ _. refl);
     staysInLimits = λ z. idle-after z;
     runsOn = λ z time.
         let f = idle-fine z in

@@ -21,10 +21,9 @@ use Rattle.text.proofs.Texts.{written-length}
 use Rattle.phases.specs.Phases.{waiting}
 use Rattle.phases.specs.declared.Act.{Act}
 use Rattle.phases.specs.declared.Act.the-variants.{Go, First, Both, More, Ended, Quit, Poll, Send, Judge}
-use Rattle.block.specs.Block.{blockNumber}
 use Rattle.rkc.specs.declared.Link.{Link}
 use Rattle.rkc.specs.State.{used}
-use Rattle.rkc.specs.Outcome.{Step, Outcome, message, dataReply, itemSent, polled, judged, performed}
+use Rattle.rkc.specs.Outcome.{Step, Outcome, message, dataReply, itemSent, polled, refusing, judged, performed}
 use Rattle.rkc.specs.Outcome.{ByteCall, byteFault, received, IdleCall, idleFault, elapsed, patience, idled}
 
 -- ---- every reply
@@ -44,7 +43,7 @@ module _ (P : List ℕ → Type 0) (structure : ℕ) (nothing : P []) (one : (c 
 
   judged-reply : (t : List ℤ) (l : Link) (c : ℕ) → P (judged structure t l c .step .reply)
   judged-reply t l c =
-      chosen (λ (o : Outcome). P (o .step .reply)) (eqb (blockNumber (l .mark) (l .bcc) (l .count) (l .kept) c) none) (λ _. one ACK) (λ _. one NAK)
+      chosen (λ (o : Outcome). P (o .step .reply)) (eqb (refusing l c) none) (λ _. one ACK) (λ _. one NAK)
 
   performed-reply : (l : Link) (t : List ℤ) (time : ℕ) (x : Act) → P (performed l t structure time x .step .reply)
   unfolding performed

@@ -27,7 +27,7 @@ use Rattle.block.specs.Block.{lineError, outOfRange, blockItem, blockValue, blo
 use Rattle.block.proofs.Laws.{Refusing, block-refuses}
 use Rattle.rkc.specs.declared.Link.{Link}
 use Rattle.rkc.specs.State.{used, inLimits}
-use Rattle.rkc.specs.Outcome.{Outcome, polled, judged, performed, asked, badState}
+use Rattle.rkc.specs.Outcome.{Outcome, polled, refusing, judged, performed, asked, badState}
 use Rattle.rkc.specs.Outcome.{stepFault, goodSettings, ByteCall, byteFault, received, IdleCall, idleFault, idled}
 use Rattle.rkc.specs.Numbers.{oneOf, byteFaults, byteNumbers, byteExamples, idleFaults, idleExamples}
 use Rattle.rkc.specs.Demands.{OfNumbers}
@@ -85,7 +85,9 @@ unfolding byteFault
 byte-faults call =
     let step = stepFault (call .link) (length (call .buffer)) (goodSettings (call .address) (call .structure)) in
     each _ (step ∷ []) (IfMet byteFaults) (table-fault (call .table))
-    (each step [] (IfMet byteFaults) (step-fault byteFaults refl refl refl (call .link) (length (call .buffer)) (goodSettings (call .address) (call .structure))) (none-met byteFaults))
+    (each step [] (IfMet byteFaults)
+    (step-fault byteFaults refl refl refl (call .link) (length (call .buffer)) (goodSettings (call .address) (call .structure)))
+    (none-met byteFaults))
 
 pub idle-faults : (call : IdleCall) → IfMet idleFaults (idleFault call)
 unfolding idleFault
@@ -96,8 +98,8 @@ idle-faults call = step-fault idleFaults refl refl refl (call .link) (length (ca
 -- 11 to 18
 refused : (n : ℕ) → Refusing n → oneOf byteNumbers n ≡ true
 refused n r =
-    let p = passes-at (λ (k : ℕ). cond (leb lineError k) (oneOf byteNumbers k) true) (suc outOfRange) n refl (omega (arith, r .most)) in
-    rw (le-leb lineError n (r .least)) at p
+    rw (le-leb lineError n (r .least)) at
+    (passes-at (λ (k : ℕ). cond (leb lineError k) (oneOf byteNumbers k) true) (suc outOfRange) n refl (omega (arith, r .most)))
 
 module _ (l : Link) (t : List ℤ) (good : goodTable t ≡ true) (structure time : ℕ) where
   abbrev Numbered : Act → Type 0
@@ -109,15 +111,15 @@ module _ (l : Link) (t : List ℤ) (good : goodTable t ≡ true) (structure time
 
   judged-numbers : (c : ℕ) → oneOf byteNumbers (judged structure t l c .step .number) ≡ true
   judged-numbers c =
-      let n = blockNumber (l .mark) (l .bcc) (l .count) (l .kept) c in
-      chosen (λ (o : Outcome). oneOf byteNumbers (o .step .number) ≡ true) (eqb n none) (λ _. refl)
-      (λ e. refused n (block-refuses (l .mark) (l .bcc) (l .count) (l .kept) c (eqb-false n none e)))
+      chosen (λ (o : Outcome). oneOf byteNumbers (o .step .number) ≡ true) (eqb (refusing l c) none) (λ _. refl)
+      (λ e. refused (refusing l c) (block-refuses (l .mark) (l .bcc) (l .count) (l .kept) c (eqb-false _ _ e)))
 
   pub act-numbers : (address c : ℕ) → Numbered (asked l address c)
   unfolding performed
   act-numbers address c =
       every-act Numbered (λ p _. refl) (λ a _. refl) (λ a b _. refl) (λ a b _. polled-numbers a b (found a b) refl)
-      (λ item h. rw (always-sent (item - 1) (omega (arith, h .0, h .1)) structure time t good)) (λ _. refl) (λ _. refl) (λ _. refl)
+      (λ item h. rw (always-sent (item - 1) (omega (arith, h .0, h .1)) structure time t good))
+      (λ _. refl) (λ _. refl) (λ _. refl)
       (l .phase) _ _ (l .item) address c (λ c _. refl) (λ _. refl) (λ c _. judged-numbers c)
 
 -- ---- each number is given: the definitions compute

@@ -25,11 +25,10 @@ use Rattle.phases.specs.Limits.{Listed, Limited}
 use Rattle.phases.specs.declared.Act.{Act}
 use Rattle.phases.specs.declared.Act.the-variants.{Go, First, Both, More, Ended, Quit, Poll, Send, Judge}
 use Rattle.phases.proofs.Laws.{decided-limited}
-use Rattle.block.specs.Block.{blockNumber}
 use Rattle.rkc.specs.declared.Link.{Link}
 use Rattle.rkc.specs.State.{inPhase, holdingOne, holdingTwo, waitingOn, block, inBlock, used, isCharacter, allCharacters}
 use Rattle.rkc.specs.State.{mostCounted, blockInLimits, inLimits, oneMore, withMore, withEnd}
-use Rattle.rkc.specs.Outcome.{Step, Outcome, asked, itemSent, polled, performed}
+use Rattle.rkc.specs.Outcome.{Step, Outcome, asked, itemSent, polled, refusing, performed}
 use Rattle.rkc.proofs.Used.{used-phase, asked-used}
 
 -- an identifier's first character, and an item that is waited on
@@ -156,7 +155,7 @@ performed-limits l t structure time (Poll a b) s x = by (found a b) refl
     by Nothing e = refl
 performed-limits l t structure time (Send item) s x = item-limits structure time t (item - 1) (omega (arith, x .0, x .1))
 performed-limits l t structure time (Judge c) s x =
-    chosen (λ (o : Outcome). inLimits (o .step .link) ≡ true) (eqb (blockNumber (l .mark) (l .bcc) (l .count) (l .kept) c) none) (λ _. refl) (λ _. refl)
+    chosen (λ (o : Outcome). inLimits (o .step .link) ≡ true) (eqb (refusing l c) none) (λ _. refl) (λ _. refl)
 
 -- what is used of a state within its limits is within them
 pub used-in-limits : (l : Link) → inLimits l ≡ true → inLimits (used l) ≡ true

@@ -1,6 +1,7 @@
 -- A step looks at a state only where its phase uses it: it asks and does the same of a state as of what is used of it.
 -- Assumes nothing.
 use mathlib.Core.Path.{_≡_, refl, sym, ap, ap₂, _∙_}
+use mathlib.Core.Logic.{_≢_}
 use mathlib.Core.Bool.{Bool, true, false, cond}
 use mathlib.Core.List.{List}
 use Prim.Native.Nat.{ℕ}
@@ -23,7 +24,7 @@ use Rattle.phases.specs.declared.Act.{Act}
 use Rattle.block.specs.Block.{underTwo, identifierLength, blockItem, blockValue, blockNumbers, blockNumber}
 use Rattle.rkc.specs.declared.Link.{Link}
 use Rattle.rkc.specs.State.{inPhase, holdingOne, holdingTwo, waitingOn, asBlock, inBlock, used}
-use Rattle.rkc.specs.Outcome.{judged, performed, asked}
+use Rattle.rkc.specs.Outcome.{refusing, judged, performed, asked}
 use Rattle.rkc.proofs.Acts.{outside-act}
 
 -- ---- the phase, and the time that waiting uses
@@ -82,10 +83,14 @@ module _ (count : ℕ) (kept : List ℕ) where
 pub judged-up-to : (structure : ℕ) (t : List ℤ) (l : Link) (c : ℕ) → judged structure t (asBlock l) c ≡ judged structure t l c
 judged-up-to structure t l c = by (leb identifierLength (l .count)) refl
   where
+    number : refusing (asBlock l) c ≡ refusing l c
+    number = number-up-to (l .count) (l .kept) (l .mark) (l .bcc) c
+
     by : (b : Bool) → leb identifierLength (l .count) ≡ b → judged structure t (asBlock l) c ≡ judged structure t l c
-    by true e = rw (number-up-to (l .count) (l .kept) (l .mark) (l .bcc) c, item-up-to (l .count) (l .kept) e, value-up-to (l .count) (l .kept) e)
+    by true e = rw (number, item-up-to (l .count) (l .kept) e, value-up-to (l .count) (l .kept) e)
     by false e =
-        rw (number-up-to (l .count) (l .kept) (l .mark) (l .bcc) c, ne-eqb (blockNumber (l .mark) (l .bcc) (l .count) (l .kept) c) none (λ z. contrary (sym (has-identifier (l .count) (l .kept) (l .mark) (l .bcc) c z) ∙ e)))
+        let met : refusing l c ≢ none = λ z. contrary (sym (has-identifier (l .count) (l .kept) (l .mark) (l .bcc) c z) ∙ e) in
+        rw (number, ne-eqb (refusing l c) none met)
 
 -- ---- what a character asks for
 

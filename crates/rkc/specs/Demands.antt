@@ -1,6 +1,6 @@
 -- Demand 1 for the RKC line, and what else the customer asks of it: claims about every call.
 use mathlib.Core.Path.{_≡_}
-use mathlib.Core.Logic.{_⊎_}
+use mathlib.Core.Logic.{_≢_, _⊎_}
 use mathlib.Core.Bool.{Bool, true, false, _&&_}
 use mathlib.Core.List.{List, [], _∷_, _++_, map}
 use Prim.Native.Nat.{ℕ, _+_}
@@ -40,15 +40,15 @@ nextByte call time byte =
 -- what is claimed of a byte call, whatever it is handed
 pub record OfByte (call : ByteCall) : Type 0 where
   -- the caller's fault leaves state, table and buffer as they came, sends nothing and gives its number, 1 to 5
-  pub faultLeavesAll : (byteFault call ≡ none → ⊥) → (r : Stepped) (after : List ℕ) (left : List ℤ) → Leads call r after left
+  pub faultLeavesAll : byteFault call ≢ none → (r : Stepped) (after : List ℕ) (left : List ℤ) → Leads call r after left
       → (r ≡ record { link = call .link; number = byteFault call; len = 0 }) × (after ≡ call .buffer) × (left ≡ call .table)
-  pub faultNumbers : (byteFault call ≡ none → ⊥) → oneOf byteFaults (received call .step .number) ≡ true
-  -- without a fault it gives 0, 11 to 18, 41, 42, 43 or 45; so none of the numbers 1 to 9, and not 46: every item is sent
+  pub faultNumbers : byteFault call ≢ none → oneOf byteFaults (received call .step .number) ≡ true
+  -- without a fault it gives 0, 11 to 18, 41, 42, 43 or 45, so none of 1 to 9, and not 46: an item that is asked for is sent
   pub otherNumbers : byteFault call ≡ none → oneOf byteNumbers (received call .step .number) ≡ true
   pub noFaultNumber : byteFault call ≡ none → within 1 9 (received call .step .number) ≡ false
-  pub alwaysRoom : byteFault call ≡ none → received call .step .number ≡ noRoom → ⊥
+  pub alwaysRoom : byteFault call ≡ none → received call .step .number ≢ noRoom
   -- any number but 0 leaves the table
-  pub numberLeavesTable : (received call .step .number ≡ none → ⊥) → received call .table ≡ call .table
+  pub numberLeavesTable : received call .step .number ≢ none → received call .table ≡ call .table
   -- each entry is unchanged or in its range; a read-only item keeps its number; a good table stays good
   pub staysOrInRange : (j : ℕ)
       → (entry (received call .table) j ≡ entry (call .table) j) ⊎ (inRange j (entry (received call .table) j) ≡ true)
@@ -73,9 +73,9 @@ nextIdle call time =
 
 -- what is claimed of it: its faults are 3, 4 and 5, and without one it gives 0 or 44
 pub record OfIdle (call : IdleCall) : Type 0 where
-  pub faultLeavesAll : (idleFault call ≡ none → ⊥) → (r : Stepped) (after : List ℕ) → Idles call r after
+  pub faultLeavesAll : idleFault call ≢ none → (r : Stepped) (after : List ℕ) → Idles call r after
       → (r ≡ record { link = call .link; number = idleFault call; len = 0 }) × (after ≡ call .buffer)
-  pub faultNumbers : (idleFault call ≡ none → ⊥) → oneOf idleFaults (idled call .number) ≡ true
+  pub faultNumbers : idleFault call ≢ none → oneOf idleFaults (idled call .number) ≡ true
   pub otherNumbers : idleFault call ≡ none → oneOf idleNumbers (idled call .number) ≡ true
   pub staysInLimits : idleFault call ≡ none → inLimits (idled call .link) ≡ true
   pub runsOn : idleFault call ≡ none → (time : ℕ) → idleFault (nextIdle call time) ≡ none

@@ -87,10 +87,14 @@ polled structure time t Nothing = quit structure unknownPolled
 
 -- ---- blocks
 
--- the answer to a block, once a byte was heard in the BCC's place: NAK with the block's number, or ACK with the item stored
+-- the number that refuses a block, once a byte was heard in the BCC's place
+abbrev pub refusing : Link → ℕ → ℕ
+refusing l c = blockNumber (l .mark) (l .bcc) (l .count) (l .kept) c
+
+-- the answer: NAK with that number, or ACK with the item stored
 abbrev pub judged : ℕ → List ℤ → Link → ℕ → Outcome
 judged structure t l c =
-    unlessMet (blockNumber (l .mark) (l .bcc) (l .count) (l .kept) c)
+    unlessMet (refusing l c)
     (λ number. keeping t (sends structure NAK (inPhase phases.answered) number))
     (record {
       step = sends structure ACK (inPhase phases.answered) none;

@@ -22,10 +22,9 @@ use Rattle.text.specs.Writing.{written}
 use Rattle.phases.specs.Phases.{oneCharacter, twoCharacters, waiting}
 use Rattle.phases.specs.declared.Act.{Act}
 use Rattle.phases.specs.declared.Act.the-variants.{Go, First, Both, More, Ended, Quit, Poll, Send, Judge}
-use Rattle.block.specs.Block.{blockNumber}
 use Rattle.rkc.specs.declared.Link.{Link}
 use Rattle.rkc.specs.State.{inPhase, holdingOne, holdingTwo, waitingOn, block, inBlock, used, withMore, withEnd}
-use Rattle.rkc.specs.Outcome.{Step, Outcome, itemSent, polled, judged, performed, ByteCall, byteFault, received}
+use Rattle.rkc.specs.Outcome.{Step, Outcome, itemSent, polled, refusing, judged, performed, ByteCall, byteFault, received}
 use Rattle.rkc.specs.Outcome.{IdleCall, elapsed, patience, idleFault, idled}
 use Rattle.state.specs.State.{stateBytes, fields, unknownPhase, unpacked, packed}
 use Rattle.state.proofs.Parts.{part-elements}
@@ -89,7 +88,7 @@ module _ (structure time : ℕ) (t : List ℤ) (h : time < 2 ^ 32) where
 
   judged-whole : (l : Link) (c : ℕ) → LeavesWhole (judged structure t l c .step)
   judged-whole l c =
-      chosen (λ (o : Outcome). LeavesWhole (o .step)) (eqb (blockNumber (l .mark) (l .bcc) (l .count) (l .kept) c) none)
+      chosen (λ (o : Outcome). LeavesWhole (o .step)) (eqb (refusing l c) none)
       (λ _. in-phase-whole _)
       (λ _. in-phase-whole _)
 
