@@ -5,13 +5,12 @@ use mathlib.Core.Bool.{Bool, true, false}
 use mathlib.Core.List.{List, [], _∷_, map}
 use Prim.Native.Nat.{ℕ, _+_, _<_, _≤_}
 use native.Mathlib.Omega.{arith}
-use borrow.Author.Tests.{eq-eqb, ne-eqb, eqb-true, leb-true, le-leb, lt-leb}
-use lib.Dec.{eqb, leb}
+use borrow.Author.Tests.{eq-eqb, ne-eqb, leb-true, le-leb, lt-leb}
+use lib.Dec.{leb}
 use lib.IntN.{ℤ}
 use lib.ListN.{length}
 use Rattle.numbers.specs.Numbers.{none, unless, firstMet, shortBuffer, leastBuffer, badSetting}
-use Rattle.numbers.proofs.Tests.{chosen}
-use Rattle.numbers.proofs.Order.{this-met, not-met, none-at, test-held}
+use Rattle.numbers.proofs.Order.{this-met, not-met, none-at, last-met, test-held}
 use Rattle.items.specs.ItemList.{itemAt}
 use Rattle.table.specs.Table.{tableFault, answered, stored}
 use Rattle.line.specs.Line.{ACK, NAK, sent, heard}
@@ -72,10 +71,6 @@ module _ (structure : ℕ) (t : List ℤ) (l : Link) (c : ℕ) {v : Verdict} (j 
       rw (s .0) (simp (ne-eqb n none (s .1)))
 
 -- ---- the caller's faults
-
--- the last number that is tried
-last-met : (n : ℕ) → firstMet (n ∷ []) ≡ n
-last-met n = chosen (λ (m : ℕ). m ≡ n) (eqb n none) (λ e. sym (eqb-true n none e)) (λ _. refl)
 
 module _ (l : Link) (room : ℕ) (settings : Bool) where
   pub step-short : room < leastBuffer → stepFault l room settings ≡ shortBuffer

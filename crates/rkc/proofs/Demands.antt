@@ -6,7 +6,7 @@ use mathlib.Core.Logic.{_≢_, _⊎_, inl}
 use mathlib.Core.Bool.{Bool, true, false, not, _&&_}
 use mathlib.Core.List.{List, [], _∷_, map}
 use Prim.Native.Nat.{ℕ}
-use borrow.Author.Tests.{eq-eqb, eqb-true, eqb-false, not-true}
+use borrow.Author.Tests.{eq-eqb, eqb-true, not-true}
 use lib.Dec.{eqb, leb}
 use lib.IntN.{ℤ}
 use lib.ListN.{length}
@@ -14,6 +14,7 @@ use lib.Seq.{length-sets}
 use lib.Signed.{leZ}
 use Rattle.numbers.specs.Numbers.{none}
 use Rattle.numbers.proofs.Tests.{contrary, chosen}
+use Rattle.numbers.proofs.Order.{either-way}
 use Rattle.items.specs.ItemList.{itemAt, inRange}
 use Rattle.table.specs.Table as table
 use Rattle.table.specs.Table.{goodTable, entry, stored}
@@ -29,7 +30,7 @@ use Rattle.block.proofs.Laws.{block-stores}
 use Rattle.rkc.specs.declared.Link.{Link}
 use Rattle.rkc.specs.State.{used, inLimits}
 use Rattle.rkc.specs.Outcome.{Step, Outcome, keeping, silent, quit, dataReply, itemSent, refusing, judged, performed, asked, handedBack, done}
-use Rattle.rkc.specs.Outcome.{ByteCall, byteFault, received, IdleCall, elapsed, patience, timedOut, idleFault, idled}
+use Rattle.rkc.specs.Outcome.{ByteCall, byteFault, received, IdleCall, elapsed, patience, timedOut, idleFault, passed, idled}
 use Rattle.rkc.specs.Promise.{Steps, Does}
 use Rattle.rkc.specs.Numbers.{oneOf, byteNumbers, idleNumbers}
 use Rattle.rkc.specs.Demands.{allKeep, nextByte, OfByte, OfIdle, stateText, OfAlarms}
@@ -92,7 +93,7 @@ module _ (call : ByteCall) where
       → (byteFault call ≡ none → P (done call))
       → P (received call)
   unfolding received
-  by-outcome P fault fine = chosen P (eqb (byteFault call) none) (λ e. fine (eqb-true _ _ e)) (λ e. fault (eqb-false _ _ e))
+  by-outcome = either-way (byteFault call) (λ number. keeping (call .table) (handedBack (call .link) number)) (done call)
 
   -- the act that is asked for is limited
   limited : byteFault call ≡ none → Limited (asked (used (call .link)) (call .address) (heard (call .structure) (call .byte)))
@@ -166,11 +167,10 @@ module _ (call : IdleCall) where
       → P (idled call)
   unfolding idled
   by-step P fault late early =
-      chosen P (eqb (idleFault call) none)
-      (λ e. chosen P (eqb (used (call .link) .phase) waiting && leb patience (elapsed (call .time) (used (call .link) .time)))
-      (λ _. late (eqb-true _ _ e))
-      (λ _. early (eqb-true _ _ e)))
-      (λ e. fault (eqb-false _ _ e))
+      either-way (idleFault call) (handedBack (call .link)) (passed (used (call .link)) (call .structure) (call .time)) P fault
+      (λ z. chosen P (eqb (used (call .link) .phase) waiting && leb patience (elapsed (call .time) (used (call .link) .time)))
+      (λ _. late z)
+      (λ _. early z))
 
   idle-fine : idleFault call ≡ none → FineStep (call .link) (length (call .buffer)) (leb (call .structure) lastStructure)
   unfolding idleFault
