@@ -60,14 +60,6 @@ last-met n = chosen (λ (m : ℕ). m ≡ n) (eqb n none) (λ e. sym (eqb-true n 
 
 -- ---- a test, and its number
 
--- a test that failed has its number met
-pub failed : (test : Bool) (n : ℕ) (ns : List ℕ) → test ≡ false → 0 < n → firstMet (unless test n ∷ ns) ≡ n
-failed test n ns e h = rw (e, ne-eqb n none (λ z. omega arith))
-
--- a test that held is passed over
-pub held : (test : Bool) (n : ℕ) (ns : List ℕ) → test ≡ true → firstMet (unless test n ∷ ns) ≡ firstMet ns
-held test n ns e = rw e
-
 -- where its number is not met, a test held
 pub test-held : (test : Bool) (n : ℕ) → 0 < n → unless test n ≡ none → test ≡ true
 test-held true n h e = refl

@@ -6,7 +6,7 @@ use lib.Bits.{bitXor}
 use lib.Dec.{leb, ltb, eqb}
 use lib.ListN.{getD, set}
 use Rattle.kept.specs.Kept.{upTo}
-use Rattle.items.specs.ItemList.{items}
+use Rattle.items.specs.ItemList.{listed}
 use Rattle.line.specs.Line.{ETX, topBit, lowSeven, isLineError, within}
 use Rattle.phases.specs.Phases.{oneCharacter, twoCharacters, waiting, text, bccDue, answered}
 use Rattle.rkc.specs.declared.Link.{Link}
@@ -76,7 +76,7 @@ unfoldable pub inLimits : Link → Bool
 inLimits l =
     cond (eqb (l .phase) oneCharacter) (isCharacter (getD (l .kept) 0 0))
     (cond (eqb (l .phase) twoCharacters) (isCharacter (getD (l .kept) 0 0) && isCharacter (getD (l .kept) 1 0))
-    (cond (eqb (l .phase) waiting) (within 1 items (l .item))
+    (cond (eqb (l .phase) waiting) (listed (l .item))
     (cond (inBlock (l .phase)) (blockInLimits l)
     (leb (l .phase) answered))))
 

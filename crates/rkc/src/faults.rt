@@ -3,9 +3,9 @@ ghost use mathlib.Core.Path.{_≡_};
 ghost use mathlib.Core.List.{[], _∷_};
 ghost use lib.Dec.{leb};
 ghost use Rattle.numbers.specs.Numbers.{firstMet};
-ghost use Rattle.items.specs.ItemList.{items};
+ghost use Rattle.items.specs.ItemList.{listed};
 ghost use Rattle.table.specs.Table.{tableFault};
-ghost use Rattle.line.specs.Line.{lastStructure, within};
+ghost use Rattle.line.specs.Line.{lastStructure};
 ghost use Rattle.rkc.specs.State.{allCharacters, blockInLimits, inLimits};
 ghost use Rattle.rkc.specs.Outcome.{stepFault, goodSettings};
 use crate::Link;
@@ -42,7 +42,7 @@ fn all_characters(chars: &[u8]) -> bool
 
 // Whether an item is one of the list.
 fn listed(item: u8) -> bool
-    ensures { λ r. ⌜ r ≡ within 1 items item ⌝ }
+    ensures { λ r. ⌜ r ≡ listed item ⌝ }
 {
     1 <= item && item as usize <= items::ITEMS
 }
