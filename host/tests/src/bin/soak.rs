@@ -1,11 +1,11 @@
 //! The calls of `compare` again and again, each time with other random numbers, until there are
 //! enough of them.
 //!
-//! `soak [--seed N] [--calls N] [--seconds N] DRIVER...`: rounds of all groups until the calls are
-//! reached, 10^8 where not told. A run that takes longer than the seconds, half an hour where not
-//! told, is given up and has failed. The seed is printed, and with the same one all calls come
-//! again. The last line counts the groups of all rounds, `N passed, M failed`; the first difference
-//! ends the run.
+//! `soak [--seed N] [--calls N] [--seconds N] DRIVER...`: one round of all groups, and rounds of
+//! those with random numbers until the calls are reached, 10^8 where not told. A run that takes
+//! longer than the seconds, half an hour where not told, is given up and has failed. The seed is
+//! printed, and with the same one all calls come again. The last line counts the groups of all
+//! rounds, `N passed, M failed`; the first difference ends the run.
 
 use compare::compare::Compare;
 use compare::failure::{Checked, Failure};
@@ -44,22 +44,23 @@ fn main() -> ExitCode {
 /// Runs rounds until the calls are reached, and counts the groups that passed.
 fn run(seed: u64, bounds: &Bounds, driver: Vec<String>, passed: &mut u32) -> Checked<()> {
     let started = Instant::now();
+    let mut told = |_: &str, _: u64| {
+        *passed += 1;
+        in_time(started.elapsed(), bounds)
+    };
     let mut compare = Compare::with(driver)?;
-    for round in 0.. {
-        if compare.calls() >= bounds.calls {
-            break;
-        }
-        groups::all(&mut compare, seed.wrapping_add(round * APART), |_, _| {
-            *passed += 1;
-            in_time(started.elapsed(), bounds)
-        })?;
+    groups::all(&mut compare, seed, &mut told)?;
+    for round in 1.. {
         let seconds = started.elapsed().as_secs_f64();
         let rate = compare.calls() as f64 / seconds;
         println!(
-            "round {}: {} calls in {seconds:.0} s, {rate:.0} in a second",
-            round + 1,
+            "round {round}: {} calls in {seconds:.0} s, {rate:.0} in a second",
             compare.calls()
         );
+        if compare.calls() >= bounds.calls {
+            break;
+        }
+        groups::again(&mut compare, seed.wrapping_add(round * APART), &mut told)?;
     }
     numbers::reached(&compare)
 }

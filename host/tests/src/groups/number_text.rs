@@ -10,10 +10,8 @@ const KINDS: [u8; 6] = *b"-.059+";
 /// The longest text that can be a number.
 const LONGEST: u32 = 6;
 
-/// Texts that are systematic in one way or another, then any characters, lengths and decimals.
+/// Any characters, lengths and decimals, of which many are allowed.
 pub fn read(compare: &mut Compare, random: &mut Random) -> Checked<()> {
-    kinds(compare, random)?;
-    characters(compare, random)?;
     for _ in 0..30_000 {
         let decimals = any_decimals(random);
         let length = random.below(11);
@@ -28,7 +26,7 @@ pub fn read(compare: &mut Compare, random: &mut Random) -> Checked<()> {
 }
 
 /// All texts over the kinds, at all decimals that are allowed.
-fn kinds(compare: &mut Compare, random: &mut Random) -> Checked<()> {
+pub fn kinds(compare: &mut Compare, random: &mut Random) -> Checked<()> {
     for length in 0..=LONGEST {
         for code in 0..KINDS.len().pow(length) {
             for decimals in 0..=3 {
@@ -40,7 +38,7 @@ fn kinds(compare: &mut Compare, random: &mut Random) -> Checked<()> {
 }
 
 /// Every character in every place among digits.
-fn characters(compare: &mut Compare, random: &mut Random) -> Checked<()> {
+pub fn characters(compare: &mut Compare, random: &mut Random) -> Checked<()> {
     for length in 1..=7 {
         for place in 0..length {
             for character in 0..=255 {
