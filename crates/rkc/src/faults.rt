@@ -83,14 +83,13 @@ impl Link {
     fn step_fault(self, room: usize, settings: bool) -> u8
         ensures { λ r. ⌜ r ≡ stepFault self room settings ⌝ }
     {
-        let limits = self.in_limits();
         if room < LEAST_BUFFER {
             return SHORT_BUFFER;
         }
         if !settings {
             return BAD_SETTING;
         }
-        if !limits {
+        if !self.in_limits() {
             return BAD_STATE;
         }
         0

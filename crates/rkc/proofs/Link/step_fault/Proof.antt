@@ -6,30 +6,30 @@ use Rattle.rkc.proofs.Cases.{step-short, step-setting, step-outside, st
 use Rattle.rkc.proofs.Link.step_fault.Statement.{statement}
 use Rattle.rkc.proofs.Link.step_fault.Tie as tie
 
-in-limits-requires : tie.Need-in-limits-requires
-in-limits-requires c κs = search needs
-
 returns : tie.Need-returns
 returns c = sym (step-short _ _ _ (c .if1 .taken))
 
 returns-2 : tie.Need-returns-2
 returns-2 c = sym (step-setting _ _ _ (c .before .if1 .left) (not-true _ (c .if2 .taken)))
 
+in-limits-requires : tie.Need-in-limits-requires
+in-limits-requires c κs = search needs
+
 returns-3 : tie.Need-returns-3
 returns-3 c =
     let s = c .before .before in
-    let limits = s .before .in-limits in
-    sym (step-outside _ _ _ (s .if1 .left) (not-false _ (c .before .if2 .left)) (sym (limits .ensures) ∙ not-true (limits .result) (c .if3 .taken)))
+    let limits = c .before .in-limits in
+    sym (step-outside _ _ _ (s .before .if1 .left) (not-false _ (s .if2 .left)) (sym (limits .ensures) ∙ not-true (limits .result) (c .if3 .taken)))
 
 returns-4 : tie.Need-returns-4
 returns-4 c =
     let s = c .before .before in
-    let limits = s .before .in-limits in
+    let limits = c .before .in-limits in
     sym (step-fine _ _ _ (record {
-      roomy = s .if1 .left;
-      set = not-false _ (c .before .if2 .left);
+      roomy = s .before .if1 .left;
+      set = not-false _ (s .if2 .left);
       limits = sym (limits .ensures) ∙ not-false (limits .result) (c .if3 .left);
     }))
 
 pub step-fault-spec : {M : Type 1} → statement M
-step-fault-spec = tie.close (tie.spec in-limits-requires returns returns-2 returns-3 returns-4)
+step-fault-spec = tie.close (tie.spec returns returns-2 in-limits-requires returns-3 returns-4)
