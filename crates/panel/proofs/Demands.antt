@@ -1,8 +1,7 @@
 -- Demand 1 holds of the C functions of the RKC line: what the link's own claims say of a step is seen in the result and in the
 -- bytes that are held.
 -- Assumes nothing.
-use mathlib.Core.Path.{_≡_, refl, sym, ap, subst, _∙_}
-use mathlib.Core.Logic.{_≢_}
+use mathlib.Core.Path.{_≡_, refl, ap, subst, _∙_}
 use mathlib.Core.Bool.{true, not}
 use mathlib.Core.List.{List}
 use Prim.Native.Nat.{ℕ, _^_, _<_}
@@ -10,7 +9,6 @@ use native.Mathlib.Omega.{arith}
 use borrow.Author.Tests.{not-true, ltb-true}
 use lib.Dec.{ltb}
 use lib.IntN.{ℤ}
-use Rattle.numbers.specs.Numbers.{none}
 use Rattle.crc.specs.Crc.{Bytes}
 use Rattle.rkc.specs.declared.Link.{Link}
 use Rattle.table.specs.Table.{entry}

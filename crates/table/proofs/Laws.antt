@@ -66,10 +66,6 @@ all-set (x ∷ xs) (w ∷ t) (suc i) v a r =
     let p = both (fromLowToHigh x w) (allInRange xs t) a in
     rw (p .0) (all-set xs t i v (p .1) r)
 
-pub stored-length : (t : List ℤ) (i : ℕ) (v : ℤ) → length (stored t i v) ≡ length t
-unfolding stored
-stored-length t i v = length-set t i _
-
 -- a good table stays good after a store in range
 pub good-stored : (t : List ℤ) (i : ℕ) (v : ℤ) → goodTable t ≡ true → inRange i v ≡ true → goodTable (stored t i v) ≡ true
 unfolding stored inRange
