@@ -9,7 +9,8 @@ use native.Mathlib.Omega.{arith}
 use borrow.Author.Tests.{le-leb, leb-true}
 use lib.Arith.{mod-mul}
 use lib.Dec.{leb}
-use lib.ListN.{length, length-append}
+use lib.ListN.{length, drop, length-append}
+use lib.Seq.{drop-append-le}
 use Rattle.numbers.proofs.Tests.{both}
 use Rattle.text.specs.Characters.{zeroDigit, nineDigit, isDigit}
 use Rattle.text.specs.Reading.{allDigits, numberFrom}
@@ -57,6 +58,14 @@ pub digits-length : (k n : ℕ) → length (digits k n) ≡ k
 digits-length zero n = refl
 digits-length (suc k) n =
     let e = digits-length k (n / 10) in length-append (digits k (n / 10)) ((zeroDigit + n % 10) ∷ []) ∙ omega arith
+
+-- one digit less is the same digits without the first
+pub fewer-digits : (k n : ℕ) → drop 1 (digits (suc k) n) ≡ digits k n
+fewer-digits zero n = refl
+fewer-digits (suc k) n =
+    let last = (zeroDigit + n % 10) ∷ [] in
+    let l = digits-length (suc k) (n / 10) in
+    drop-append-le 1 (digits (suc k) (n / 10)) last (omega arith) ∙ ap (λ (ds : List ℕ). ds ++ last) (fewer-digits k (n / 10))
 
 digits-digit : (n : ℕ) → isDigit (zeroDigit + n % 10) ≡ true
 digits-digit n = rw (le-leb zeroDigit (zeroDigit + n % 10) (omega arith), le-leb (zeroDigit + n % 10) nineDigit (omega arith))

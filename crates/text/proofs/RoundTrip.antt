@@ -17,7 +17,7 @@ use Rattle.sign.specs.Sign.{signed}
 use Rattle.sign.proofs.Laws.{by-sign}
 use Rattle.numbers.proofs.Tests.{both}
 use Rattle.text.specs.Characters.{minusSign, point, isDigit}
-use Rattle.text.specs.Numbers.{mostDecimals}
+use Rattle.text.specs.Numbers.{leastWidth, mostDecimals}
 use Rattle.text.specs.Reading.{allDigits, numberFrom, pointAt, ofParts, ofUnsigned, ofText, readNumber, readValue}
 use Rattle.text.specs.Writing.{digits, pointed, room, textOf, text, fits}
 use Rattle.text.specs.Demands.{Demand2}
@@ -101,7 +101,7 @@ no-minus (suc d) k size h e =
 
 -- ---- the whole text
 
-module _ (width d size : ℕ) (wide : 6 ≤ width) (few : d ≤ mostDecimals) where
+module _ (width d size : ℕ) (wide : leastWidth ≤ width) (few : d ≤ mostDecimals) where
   text-says : (minus : Bool) → size < 10 ^ room width d minus → ofText d (textOf width d minus size) ≡ Value (signed minus size)
   text-says true h = pointed-says true (room width d true) size h d (enough-room width d true wide few .0)
   text-says false h =

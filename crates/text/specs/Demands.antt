@@ -7,6 +7,7 @@ use lib.IntN.{ℤ, pos}
 use lib.Signed.{leZ}
 use Rattle.numbers.specs.Numbers.{none}
 use Rattle.sign.specs.Sign.{minus}
+use Rattle.text.specs.Numbers.{leastWidth}
 use Rattle.text.specs.Reading.{readNumber, readValue}
 use Rattle.text.specs.Writing.{fits, written}
 
@@ -25,6 +26,6 @@ pub record RoundTrip (width d : ℕ) (v : ℤ) : Type 0 where
   pub isRead : readNumber width d (written width d v .chars) ≡ none
   pub same : readValue width d (written width d v .chars) ≡ v
 
--- demand 2: every value that fits makes the round trip, in every width from six characters on
+-- demand 2: every value that fits makes the round trip, in every width from the least on
 abbrev pub Demand2 : Type 0
-Demand2 = (width d : ℕ) (v : ℤ) → 6 ≤ width → d ≤ 3 → fits width d v ≡ true → RoundTrip width d v
+Demand2 = (width d : ℕ) (v : ℤ) → leastWidth ≤ width → d ≤ 3 → fits width d v ≡ true → RoundTrip width d v

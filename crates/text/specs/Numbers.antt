@@ -1,5 +1,5 @@
--- The numbers that a reading or a writing gives back, and the most decimals that either takes.
-use Prim.Native.Nat.{ℕ}
+-- The numbers that a reading or a writing gives back, the widths that a number can have, and the most decimals.
+use Prim.Native.Nat.{ℕ, _+_}
 use lib.IntN.{ℤ, pos}
 use Rattle.numbers.specs.Numbers.{none}
 use Rattle.text.specs.declared.Reading.{Reading}
@@ -11,6 +11,14 @@ width = 6
 
 abbrev pub mostDecimals : ℕ
 mostDecimals = 3
+
+-- a minus, a digit, the point and the most decimals have room
+abbrev pub leastWidth : ℕ
+leastWidth = 3 + mostDecimals
+
+-- so many digits, times ten to the most decimals, are within 32 bits
+abbrev pub mostWidth : ℕ
+mostWidth = 6
 
 abbrev pub doesNotFit : ℕ
 doesNotFit = 8

@@ -2,17 +2,20 @@
 // document 01's.
 use numbers::NONE;
 ghost use mathlib.Core.Path.{_≡_};
-ghost use mathlib.Core.Bool.{cond};
+ghost use mathlib.Core.Bool.{false};
 ghost use Prim.Native.Nat.{_+_, _-_, _/_, _<_, _≤_, _^_};
 ghost use lib.ListN.{length};
 ghost use Rattle.sign.specs.Sign.{made};
-ghost use Rattle.text.specs.Characters.{isDigit, minusSign};
-ghost use Rattle.text.specs.Numbers.{width, mostDecimals, numberOf, valueOf};
+ghost use Rattle.text.specs.Characters.{isDigit};
+ghost use Rattle.text.specs.Numbers.{width, leastWidth, mostWidth, mostDecimals, numberOf, valueOf};
 ghost use Rattle.text.specs.Reading.{digitsFrom, ofParts, ofUnsigned, pointAt, ReadAs};
 ghost use Rattle.text.specs.Writing.{refusal, room, textOf, written};
 
 // How many characters a number has: as many when it is written, at most as many when it is read.
 pub const WIDTH: usize = 6;
+
+// The most characters that a number can have in any width: so many digits, times ten to the most decimals, are within 32 bits.
+pub const MOST_WIDTH: usize = 6;
 
 const MOST_DECIMALS: u8 = 3;
 
@@ -64,11 +67,11 @@ enum Digits {
     Other,
 }
 
-const TENS: [u32; 7] = [1, 10, 100, 1000, 10000, 100000, 1000000];
+const TENS: [u32; MOST_WIDTH + 1] = [1, 10, 100, 1000, 10000, 100000, 1000000];
 
 // 10 to the power k.
 fn power(k: usize) -> u32
-    requires { ⌜ k < 7 ⌝ }
+    requires { ⌜ k ≤ mostWidth ⌝ }
     ensures { λ r. ⌜ r ≡ 10 ^ k ⌝ }
 {
     TENS[k]
@@ -96,7 +99,7 @@ fn is_digit(c: u8) -> bool
 
 // The number that these digits write after the digits of `from`.
 fn digits_from(from: u32, chars: &[u8]) -> Digits
-    requires { ⌜ (length (now chars) ≤ 6) × (from < 10 ^ (6 - length (now chars))) ⌝ }
+    requires { ⌜ (length (now chars) ≤ mostWidth) × (from < 10 ^ (mostWidth - length (now chars))) ⌝ }
     ensures { λ r. ⌜ r ≡ digitsFrom from (now (chars .entry)) ⌝ }
 {
     let mut n = from;
@@ -115,7 +118,7 @@ fn digits_from(from: u32, chars: &[u8]) -> Digits
 
 // A size over a power of ten. The quotient cuts the fraction off, and the sign comes last, so that the cut is toward zero.
 fn cut_off(minus: bool, size: u32, tens: u32) -> i32
-    requires { ⌜ (size < 10 ^ 9) × (0 < tens) × (tens ≤ 10 ^ 6) ⌝ }
+    requires { ⌜ (size < 10 ^ (mostWidth + mostDecimals)) × (0 < tens) × (tens ≤ 10 ^ mostWidth) ⌝ }
     ensures { λ r. ⌜ r ≡ made minus (size / tens) ⌝ }
 {
     sign::make(minus, size / tens)
@@ -123,7 +126,7 @@ fn cut_off(minus: bool, size: u32, tens: u32) -> i32
 
 // What the characters before and after the point say.
 fn of_parts(minus: bool, decimals: usize, whole: &[u8], fraction: &[u8]) -> Reading
-    requires { ⌜ (decimals ≤ mostDecimals) × (length (now whole) + length (now fraction) ≤ 6) ⌝ }
+    requires { ⌜ (decimals ≤ mostDecimals) × (length (now whole) + length (now fraction) ≤ mostWidth) ⌝ }
     ensures { λ r. ⌜ r ≡ ofParts minus decimals (now (whole .entry)) (now (fraction .entry)) ⌝ }
 {
     let Digits::Number(front) = digits_from(0, whole) else {
@@ -140,9 +143,9 @@ fn of_parts(minus: bool, decimals: usize, whole: &[u8], fraction: &[u8]) -> Read
     Reading::Value(cut_off(minus, size, power(places)))
 }
 
-// What the characters after the sign say. This and `read` call what comes next in one place, so that it is compiled once.
+// What the characters after the sign say. This and `read_in` call what comes next in one place, so that it is compiled once.
 fn of_unsigned(minus: bool, decimals: usize, chars: &[u8]) -> Reading
-    requires { ⌜ (decimals ≤ mostDecimals) × (length (now chars) ≤ 6) ⌝ }
+    requires { ⌜ (decimals ≤ mostDecimals) × (length (now chars) ≤ mostWidth) ⌝ }
     ensures { λ r. ⌜ r ≡ ofUnsigned minus decimals (now (chars .entry)) ⌝ }
 {
     let point = point_at(chars);
@@ -154,14 +157,15 @@ fn of_unsigned(minus: bool, decimals: usize, chars: &[u8]) -> Reading
     of_parts(minus, decimals, &chars[..point], &chars[after..])
 }
 
-// What the characters say of a value with so many decimals.
-pub fn read(decimals: u8, chars: &[u8]) -> Reading
+// What at most `width` characters say of a value with so many decimals.
+fn read_in(width: usize, decimals: u8, chars: &[u8]) -> Reading
+    requires { ⌜ width ≤ mostWidth ⌝ }
     ensures { λ r. ⌜ ReadAs width decimals (now (chars .entry)) r ⌝ }
 {
     if decimals > MOST_DECIMALS {
         return Reading::Decimals;
     }
-    if chars.len() > WIDTH {
+    if chars.len() > width {
         return Reading::TooLong;
     }
     if chars.len() == 0 {
@@ -171,43 +175,52 @@ pub fn read(decimals: u8, chars: &[u8]) -> Reading
     of_unsigned(minus, decimals as usize, &chars[minus as usize..])
 }
 
+// What the characters say of a value with so many decimals.
+pub fn read(decimals: u8, chars: &[u8]) -> Reading
+    ensures { λ r. ⌜ ReadAs width decimals (now (chars .entry)) r ⌝ }
+{
+    read_in(WIDTH, decimals, chars)
+}
+
 // The characters of a value, or the number of a refusal and no characters.
 pub struct Written {
     pub number: u8,
-    pub chars: [u8; 6],
+    pub chars: [u8; MOST_WIDTH],
 }
 
 fn refused(number: u8) -> Written
-    ensures { λ r. ⌜ r ≡ refusal 6 number ⌝ }
+    ensures { λ r. ⌜ r ≡ refusal mostWidth number ⌝ }
 {
     Written {
         number,
-        chars: [0; 6],
+        chars: [0; MOST_WIDTH],
     }
 }
 
-// The least size that has no room beside the minus and the point.
-fn limit(decimals: u8, minus: bool) -> u32
-    ensures { λ r. ⌜ r ≡ 10 ^ room 6 decimals minus ⌝ }
+// The least size that has no room beside the minus and the point: ten to the places that are left.
+fn limit(width: usize, decimals: u8, minus: bool) -> u32
+    requires { ⌜ (leastWidth ≤ width) × (width ≤ mostWidth) ⌝ }
+    ensures { λ r. ⌜ r ≡ 10 ^ room width decimals minus ⌝ }
 {
     if decimals == 0 {
-        if minus { 100000 } else { 1000000 }
+        if minus {
+            power(width - 1)
+        } else {
+            power(width)
+        }
     } else {
-        if minus { 10000 } else { 100000 }
+        if minus {
+            power(width - 2)
+        } else {
+            power(width - 1)
+        }
     }
 }
 
-// The first character: the minus, or else a digit.
-fn first(minus: bool, digit: u8) -> u8
-    ensures { λ r. ⌜ r ≡ cond minus minusSign digit ⌝ }
-{
-    if minus { b'-' } else { digit }
-}
-
-// The characters of a size that has room. d0 is its last digit, d1 the one before, and so on.
-fn layout(minus: bool, decimals: u8, size: u32) -> [u8; 6]
+// The digits of a size with the point, in all places. d0 is its last digit, d1 the one before, and so on.
+fn places(decimals: u8, size: u32) -> [u8; MOST_WIDTH]
     requires { ⌜ decimals ≤ mostDecimals ⌝ }
-    ensures { λ r. ⌜ r ≡ textOf 6 decimals minus size ⌝ }
+    ensures { λ r. ⌜ r ≡ textOf mostWidth decimals false size ⌝ }
 {
     let tens = size / 10;
     let hundreds = tens / 10;
@@ -220,15 +233,28 @@ fn layout(minus: bool, decimals: u8, size: u32) -> [u8; 6]
     let d4 = b'0' + (ten_thousands % 10) as u8;
     let d5 = b'0' + (ten_thousands / 10 % 10) as u8;
     match decimals {
-        0 => [first(minus, d5), d4, d3, d2, d1, d0],
-        1 => [first(minus, d4), d3, d2, d1, b'.', d0],
-        2 => [first(minus, d4), d3, d2, b'.', d1, d0],
-        _ => [first(minus, d4), d3, b'.', d2, d1, d0],
+        0 => [d5, d4, d3, d2, d1, d0],
+        1 => [d4, d3, d2, d1, b'.', d0],
+        2 => [d4, d3, d2, b'.', d1, d0],
+        _ => [d4, d3, b'.', d2, d1, d0],
     }
 }
 
-// The value with its decimals in six characters.
-pub fn write(decimals: u8, value: i32) -> Written
+// The characters of a size that has room: the minus takes the first place, where such a size has a zero.
+fn layout(minus: bool, decimals: u8, size: u32) -> [u8; MOST_WIDTH]
+    requires { ⌜ decimals ≤ mostDecimals ⌝ }
+    ensures { λ r. ⌜ r ≡ textOf mostWidth decimals minus size ⌝ }
+{
+    let mut chars = places(decimals, size);
+    if minus {
+        chars[0] = b'-';
+    }
+    chars
+}
+
+// The value with its decimals in `width` characters.
+fn write_in(width: usize, decimals: u8, value: i32) -> Written
+    requires { ⌜ (leastWidth ≤ width) × (width ≤ mostWidth) ⌝ }
     ensures { λ r. ⌜ r ≡ written width decimals value ⌝ }
 {
     if MOST_DECIMALS < decimals {
@@ -236,7 +262,7 @@ pub fn write(decimals: u8, value: i32) -> Written
     }
     let minus = sign::less(value, 0);
     let size = sign::size(value);
-    if size < limit(decimals, minus) {
+    if size < limit(width, decimals, minus) {
         let chars = layout(minus, decimals, size);
         Written {
             number: NONE,
@@ -245,4 +271,11 @@ pub fn write(decimals: u8, value: i32) -> Written
     } else {
         refused(DOES_NOT_FIT)
     }
+}
+
+// The value with its decimals in six characters.
+pub fn write(decimals: u8, value: i32) -> Written
+    ensures { λ r. ⌜ r ≡ written width decimals value ⌝ }
+{
+    write_in(WIDTH, decimals, value)
 }

@@ -6,6 +6,7 @@ use Prim.Native.Nat.{ℕ, zero, suc, _+_, _^_, _<_}
 use native.Mathlib.Omega.{arith}
 use borrow.Author.Needs.{needs}
 use lib.ListN.{getD}
+use Rattle.text.specs.Numbers.{mostWidth}
 use Rattle.text.proofs.power.Statement.{statement}
 use Rattle.text.proofs.power.Tie as tie
 
@@ -26,7 +27,7 @@ array-read-result : tie.Need-array-read-result
 array-read-result c = search needs
 
 returns : tie.Need-returns
-returns c = power-at 0 7 (c .args .k) (c .pre) ∙ ap (λ (m : ℕ). 10 ^ m) (omega arith)
+returns c = power-at 0 (suc mostWidth) (c .args .k) (omega arith) ∙ ap (λ (m : ℕ). 10 ^ m) (omega arith)
 
 pub power-spec : {M : Type 1} → statement M
 power-spec = tie.close (tie.spec mul-result array-read-result returns)

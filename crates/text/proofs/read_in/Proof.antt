@@ -1,32 +1,31 @@
--- `text::read` meets its contract: each test of the code is one of the definition's, and what comes after the sign is
+-- `text::read_in` meets its contract: each test of the code is one of the definition's, and what comes after the sign is
 -- read once, whether there is one or not.
 -- Assumes nothing.
 use mathlib.Core.Path.{refl, ap, _∙_}
 use native.Mathlib.Omega.{arith}
 use lib.ListN.{drop-of-length-le}
 use mir.Val.{boolByte}
-use Rattle.text.specs.Numbers.{width}
 use Rattle.text.specs.Reading.{ofUnsigned}
 use Rattle.text.proofs.Readings.{read-decimals, read-long, read-text}
 use Rattle.text.proofs.Steps.{minusFirst, sign-apart, sign-within}
 use borrow.Author.Needs.{needs}
 use borrow.Rule.Slice.PartAt.{part-to-end}
-use Rattle.text.proofs.read.Statement.{statement}
-use Rattle.text.proofs.read.Tie as tie
+use Rattle.text.proofs.read_in.Statement.{statement}
+use Rattle.text.proofs.read_in.Tie as tie
 
 returns : tie.Need-returns
-returns c = let s = c .before .before .args in read-decimals width (s .decimals) (s .chars .now) (omega arith)
+returns c = let s = c .before .before .args in read-decimals (s .width) (s .decimals) (s .chars .now) (omega arith)
 
 returns-2 : tie.Need-returns-2
 returns-2 c =
     let s = c .before .before .before .args in
-    read-long width (s .decimals) (s .chars .now) (omega arith) (omega arith)
+    read-long (s .width) (s .decimals) (s .chars .now) (omega arith) (omega arith)
 
 returns-3 : tie.Need-returns-3
 returns-3 c =
     let s = c .before .before .before .before .args in
     let empty = drop-of-length-le (s .chars .now) {i = 0} (omega arith) in
-    read-text width (s .decimals) (s .chars .now) (omega arith) (omega arith) (rw empty refl)
+    read-text (s .width) (s .decimals) (s .chars .now) (omega arith) (omega arith) (rw empty refl)
 
 shared-slice-read-minus : tie.Need-shared-slice-read-minus
 shared-slice-read-minus c = search needs
@@ -52,13 +51,13 @@ returns-4 c =
     let s = t .before .before .before .before .args in
     let chars = s .chars .now in
     let minus = minusFirst chars in
-    read-text width (s .decimals) chars (omega arith) (omega arith)
+    read-text (s .width) (s .decimals) chars (omega arith) (omega arith)
     (c .of-unsigned .ensures
     ∙ ap (ofUnsigned minus (s .decimals)) (part-to-end chars (boolByte minus))
     ∙ sign-apart (s .decimals) chars (omega arith))
 
-pub read-spec : {M : Type 1} → statement M
-read-spec =
+pub read-in-spec : {M : Type 1} → statement M
+read-in-spec =
     tie.close
     (tie.spec
     returns
