@@ -14,7 +14,7 @@ ghost use Rattle.text.specs.Writing.{refusal, room, textOf, written};
 // How many characters a number has: as many when it is written, at most as many when it is read.
 pub const WIDTH: usize = 6;
 
-// The most characters that a number can have in any width: so many digits, times ten to the most decimals, are within 32 bits.
+// The most that the width can be: so many digits, times ten to the most decimals, are within 32 bits.
 pub const MOST_WIDTH: usize = 6;
 
 const MOST_DECIMALS: u8 = 3;

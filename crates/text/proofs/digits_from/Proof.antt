@@ -1,5 +1,5 @@
 -- `text::digits_from` meets its contract. The invariant: only digits so far, so those left decide, and the number has at most as
--- many digits as six less those left.
+-- many digits as `mostWidth` less those left.
 -- Assumes nothing.
 use mathlib.Core.Path.{_≡_, refl, sym, _∙_}
 use mathlib.Core.Bool.{true}
@@ -10,6 +10,7 @@ use native.Mathlib.Omega.{arith}
 use borrow.Author.Needs.{needs}
 use lib.ListN.{length, drop, getD, drop-of-length-le}
 use Rattle.text.specs.Characters.{zeroDigit, nineDigit, isDigit}
+use Rattle.text.specs.Numbers.{mostWidth}
 use Rattle.text.specs.Reading.{digitsFrom}
 use Rattle.text.proofs.Numerals.{at-most, digit-range, one-more}
 use Rattle.text.proofs.Steps.{digit-here, other-here}
@@ -18,14 +19,14 @@ use Rattle.text.proofs.digits_from.Tie as tie
 
 abbrev Inv-loop : tie.InvT-loop
 Inv-loop from chars n₀ i₀ n i =
-    (i ≤ length chars) × (n < 10 ^ (6 - length chars + i)) × (digitsFrom n (drop i chars) ≡ digitsFrom from chars)
+    (i ≤ length chars) × (n < 10 ^ (mostWidth - length chars + i)) × (digitsFrom n (drop i chars) ≡ digitsFrom from chars)
 
 abbrev μ-loop : tie.MeasureT-loop
 μ-loop from chars n₀ i₀ n i = length chars - i
 
 loop-holds : tie.Need-loop-holds Inv-loop μ-loop
 loop-holds c =
-    let room = 6 - length (c .before .args .chars .now) in
+    let room = mostWidth - length (c .before .args .chars .now) in
     (omega arith, at-most (c .before .args .from) room (room + 0) (c .before .pre .1) (omega arith), refl)
 
 shared-slice-read-c : tie.Need-shared-slice-read-c Inv-loop μ-loop
@@ -34,7 +35,7 @@ shared-slice-read-c c = omega arith
 is-digit-requires : tie.Need-is-digit-requires Inv-loop μ-loop
 is-digit-requires c κs = search needs
 
--- the character that a turn takes in is a digit, and the number so far has at most five
+-- the character that a turn takes in is a digit, and the number so far has fewer than `mostWidth`
 abbrev taken-in : tie.Then1 Inv-loop μ-loop → ℕ
 taken-in c =
     let l = c .before .before .before .before in
@@ -46,11 +47,12 @@ digit c = sym (c .before .is-digit .ensures) ∙ c .if1 .taken
 range : (c : tie.Then1 Inv-loop μ-loop) → (zeroDigit ≤ taken-in c) × (taken-in c ≤ nineDigit)
 range c = digit-range (taken-in c) (digit c)
 
-small : (c : tie.Then1 Inv-loop μ-loop) → c .before .before .before .before .loop .n < 10 ^ 5
+small : (c : tie.Then1 Inv-loop μ-loop) → c .before .before .before .before .loop .n < 10 ^ (mostWidth - 1)
 small c =
     let l = c .before .before .before .before in
     let s = l .before .before in
-    at-most (l .loop .n) (6 - length (s .args .chars .now) + l .loop .i) 5 (l .loop .inv .1) (omega (arith, s .pre .0))
+    let room = mostWidth - length (s .args .chars .now) in
+    at-most (l .loop .n) (room + l .loop .i) (mostWidth - 1) (l .loop .inv .1) (omega (arith, s .pre .0))
 
 mul-n : tie.Need-mul-n Inv-loop μ-loop
 mul-n c = let h = small c in omega arith
@@ -81,10 +83,11 @@ loop-again : tie.Need-loop-again Inv-loop μ-loop
 loop-again c =
     let l = c .before .before .before .before in
     let chars = l .before .before .args .chars .now in
+    let room = mostWidth - length chars in
     let r = range c in
-    rw (add-one (l .loop .i), add-suc (6 - length chars) (l .loop .i)) (
+    rw (add-one (l .loop .i), add-suc room (l .loop .i)) (
       omega arith,
-      one-more (l .loop .n) (6 - length chars + l .loop .i) (taken-in c - zeroDigit) (l .loop .inv .1) (omega arith),
+      one-more (l .loop .n) (room + l .loop .i) (taken-in c - zeroDigit) (l .loop .inv .1) (omega arith),
       sym (digit-here chars (l .loop .i) (c .before .before .before .loop-test .taken) (l .loop .n) (digit c)) ∙ l .loop .inv .2,
     )
 

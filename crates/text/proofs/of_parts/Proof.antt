@@ -1,5 +1,5 @@
--- `text::of_parts` meets its contract: the two runs of digits are one number of at most six digits, so its product and its
--- quotient are those of the definition.
+-- `text::of_parts` meets its contract: the two runs of digits are one number of at most `mostWidth` digits, so its product
+-- and its quotient are those of the definition.
 -- Assumes nothing.
 use mathlib.Core.Path.{_≡_, sym, ap, _∙_}
 use Prim.Native.Nat.{ℕ, _+_, _-_, _*_, _/_, _^_, _<_, _≤_}
@@ -7,6 +7,7 @@ use native.Mathlib.Nat.{one-le-pow, pow-le-pow-right}
 use native.Mathlib.Omega.{arith}
 use lib.ListN.{length}
 use Rattle.sign.proofs.Laws.{make-of, same}
+use Rattle.text.specs.Numbers.{mostWidth}
 use Rattle.text.specs.Reading.{digitsFrom}
 use Rattle.text.specs.declared.Digits.the-variants.{Number}
 use Rattle.text.specs.declared.Reading.the-variants.{Value}
@@ -18,7 +19,8 @@ use Rattle.text.proofs.of_parts.Tie as tie
 
 digits-from-requires : tie.Need-digits-from-requires
 digits-from-requires c κs =
-    let s = c .before .before in (omega (arith, s .pre .1), one-le-pow (6 - length (s .args .whole .now)) 10 (omega arith))
+    let s = c .before .before in
+    (omega (arith, s .pre .1), one-le-pow (mostWidth - length (s .args .whole .now)) 10 (omega arith))
 
 enum-known-front : tie.Need-enum-known-front
 enum-known-front c = search needs
@@ -51,7 +53,7 @@ digits-from-requires-2 c κs =
     let digits = s .args .whole .now in
     let small = found-below 0 0 digits (whole f) (omega arith) (front f) in
     let places = length (s .args .fraction .now) in
-    (omega (arith, s .pre .1), at-most (whole f) (0 + length digits) (6 - places) small (omega (arith, s .pre .1)))
+    (omega (arith, s .pre .1), at-most (whole f) (0 + length digits) (mostWidth - places) small (omega (arith, s .pre .1)))
 
 enum-known-n : tie.Need-enum-known-n
 enum-known-n c = search needs
@@ -68,7 +70,7 @@ returns-2 c =
 
 -- ---- all of the digits
 
--- what was found before the point, and the number of all digits, of which there are at most six
+-- what was found before the point, and the number of all digits, of which there are at most `mostWidth`
 abbrev before-point : tie.After-n → tie.After-front
 before-point c = c .before .before .before .before
 
@@ -78,14 +80,14 @@ number c = c .n .given .0 .0
 all : (c : tie.After-n) → let f = before-point c in digitsFrom (whole f) (call f .args .fraction .now) ≡ Number (number c)
 all c = sym (c .before .before .digits-from2 .ensures) ∙ c .n .given .1
 
-six : (c : tie.After-n) → number c < 10 ^ 6
-six c =
+below : (c : tie.After-n) → number c < 10 ^ mostWidth
+below c =
     let f = before-point c in
     let s = call f in
     let digits = s .args .whole .now in
     let others = s .args .fraction .now in
     let small = number-small digits others (whole f) (number c) (front f) (all c) in
-    at-most (number c) (length digits + length others) 6 small (s .pre .1)
+    at-most (number c) (length digits + length others) mostWidth small (s .pre .1)
 
 add-if1 : tie.Need-add-if1
 add-if1 c = search needs
@@ -102,7 +104,7 @@ mul-size : tie.Need-mul-size
 mul-size c =
     let n = c .before .before .before in
     let s = call (before-point n) in
-    rw (c .power .ensures) (omega (arith, scaled 6 (number n) (s .args .decimals) (six n) (s .pre .0)))
+    rw (c .power .ensures) (omega (arith, scaled mostWidth (number n) (s .args .decimals) (below n) (s .pre .0)))
 
 power-requires-2 : tie.Need-power-requires-2
 power-requires-2 c κs = search needs
@@ -112,9 +114,9 @@ cut-off-requires c κs =
     let n = c .before .before .before .before in
     let s = call (before-point n) in
     let places = length (s .args .fraction .now) in
-    let most : places ≤ 6 = omega (arith, s .pre .1) in
+    let most : places ≤ mostWidth = omega (arith, s .pre .1) in
     rw (c .before .power .ensures, c .power2 .ensures) (
-      scaled 6 (number n) (s .args .decimals) (six n) (s .pre .0),
+      scaled mostWidth (number n) (s .args .decimals) (below n) (s .pre .0),
       one-le-pow places 10 (omega arith),
       pow-le-pow-right {n = 10} (omega arith) most,
     )
@@ -126,7 +128,7 @@ returns-4 c =
     let s = call f in
     let a = s .args in
     let tens = 10 ^ length (a .fraction .now) in
-    let small = sized 6 (number n) (a .decimals) tens (six n) (s .pre .0) in
+    let small = sized mostWidth (number n) (a .decimals) tens (below n) (s .pre .0) in
     let cut = rw (c .before .before .power .ensures, c .before .power2 .ensures) at (c .cut-off .ensures) in
     let value = make-of (a .minus) (number n * 10 ^ a .decimals / tens) (c .cut-off .result) (omega arith) cut in
     ap Value (same (c .cut-off .result) (c .cut-off .ok) ∙ value)
