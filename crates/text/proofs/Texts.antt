@@ -1,6 +1,6 @@
 -- What a written text is made of: how many digits have room, and how many characters there are.
 -- Assumes nothing.
-use mathlib.Core.Path.{_≡_, refl, sym, ap, _∙_}
+use mathlib.Core.Path.{_≡_, refl, ap, _∙_}
 use mathlib.Core.Bool.{Bool, true, false}
 use mathlib.Core.List.{List, [], _∷_}
 use Prim.Native.Nat.{ℕ, zero, suc, _+_, _-_, _<_, _≤_}
@@ -61,8 +61,9 @@ fewer-pointed (suc d) [] h = absurd (omega arith)
 fewer-pointed (suc d) (x ∷ xs) h =
     let e : suc (length xs) - suc d ≡ suc (length xs - suc d) = omega arith in rw e
 
--- the text with a minus is the one without, with the minus for its first character
-pub minus-first : (width d size : ℕ) → d < room width d true → textOf width d true size ≡ set (textOf width d false size) 0 minusSign
+-- the text with a minus is the one without, its first character replaced by the minus
+pub minus-first : (width d size : ℕ) → d < room width d true
+    → set (textOf width d false size) 0 minusSign ≡ textOf width d true size
 minus-first width d size h =
     let k = room width d true in
     let ds = digits (suc k) size in
@@ -70,9 +71,8 @@ minus-first width d size h =
     let l = digits-length (suc k) size in
     let m = pointed-length d ds (omega arith) in
     rw e
-    (sym
     (set-split (pointed d ds) 0 minusSign (omega arith)
-    ∙ ap (λ (cs : List ℕ). minusSign ∷ cs) (fewer-pointed d ds (omega arith) ∙ ap (pointed d) (fewer-digits k size))))
+    ∙ ap (λ (cs : List ℕ). minusSign ∷ cs) (fewer-pointed d ds (omega arith) ∙ ap (pointed d) (fewer-digits k size)))
 
 -- ---- whatever was written, refusals too
 

@@ -217,7 +217,7 @@ fn limit(width: usize, decimals: u8, minus: bool) -> u32
     }
 }
 
-// The digits of a size with the point, in all places. d0 is its last digit, d1 the one before, and so on.
+// The digits of a size with the point and no sign, in every place. d0 is its last digit, d1 the one before, and so on.
 fn places(decimals: u8, size: u32) -> [u8; MOST_WIDTH]
     requires { ⌜ decimals ≤ mostDecimals ⌝ }
     ensures { λ r. ⌜ r ≡ textOf mostWidth decimals false size ⌝ }

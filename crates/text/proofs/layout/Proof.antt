@@ -1,8 +1,6 @@
 -- `text::layout` meets its contract: the minus takes the first place of the text without one.
 -- Assumes nothing.
-use mathlib.Core.Path.{_≡_, refl, sym, ap, _∙_}
 use mathlib.Core.Bool.{true}
-use Prim.Native.Nat.{ℕ}
 use native.Mathlib.Omega.{arith}
 use borrow.Author.Needs.{needs}
 use Rattle.text.specs.Numbers.{mostWidth}
@@ -20,8 +18,7 @@ returns : tie.Need-returns
 returns c =
     let s = c .before .before in
     let room = enough-room mostWidth (s .args .decimals) true (omega arith) (s .pre) .0 in
-    let text = minus-first mostWidth (s .args .decimals) (s .args .size) room in
-    rw (c .if1 .taken, c .before .places .ensures) (sym text)
+    rw (c .if1 .taken, c .before .places .ensures) (minus-first mostWidth (s .args .decimals) (s .args .size) room)
 
 returns-2 : tie.Need-returns-2
 returns-2 c = rw (c .if1 .left) (c .before .places .ensures)

@@ -3,13 +3,13 @@
 -- Assumes nothing.
 use mathlib.Core.Path.{_≡_, sym, ap, _∙_}
 use mathlib.Core.Bool.{Bool}
-use Prim.Native.Nat.{ℕ, _^_, _≤_}
+use Prim.Native.Nat.{_^_}
 use native.Mathlib.Omega.{arith}
 use borrow.Author.Tests.{lt-ltb, le-ltb}
 use lib.IntN.{pos, natAbs}
 use lib.Signed.{ltZ}
 use Rattle.sign.proofs.Laws.{less-of, size-of}
-use Rattle.text.specs.Numbers.{leastWidth, mostWidth}
+use Rattle.text.specs.Numbers.{mostWidth}
 use Rattle.text.specs.Writing.{accepted, fits, room, text}
 use borrow.Author.Needs.{needs}
 use Rattle.text.proofs.Texts.{fitting, many-decimals, not-fitting}
