@@ -1,25 +1,20 @@
 -- Laws on lists and tests for the proofs here and in the crates above: reading a column at a place, a function's values and a test
 -- at each number below a bound, and a search by the lines that are left.
 -- Assumes nothing.
-use mathlib.Core.Path.{_≡_, refl, ap, _∙_}
+use mathlib.Core.Path.{_≡_, refl, sym, ap, _∙_}
 use mathlib.Core.Bool.{Bool, true, false, cond, _&&_}
-use mathlib.Core.List.{List, [], _∷_, map}
-use Prim.Native.Nat.{ℕ, zero, suc, _+_, _^_, _<_, _≤_}
+use mathlib.Core.List.{List, [], _∷_, _++_, map}
+use Prim.Native.Nat.{ℕ, zero, suc, _+_, _<_, _≤_}
 use native.Mathlib.Nat.{not-suc-le-zero, le-of-suc-le-suc}
 use native.Mathlib.Numerals.{add-one}
 use native.Mathlib.Omega.{arith}
-use borrow.Author.Tests.{eqb-true, eqb-false, ltb-true}
+use borrow.Author.Tests.{eqb-true, eqb-false, ltb-true, ltb-false, lt-ltb}
 use lib.Dec.{eqb, ltb}
-use lib.IntN.{ℤ, pos}
 use lib.ListN.{length, getD, drop, List·getD-eq-default, List·getD-map}
 use lib.Seq.{drop-cons}
-use lib.Signed.{mag}
-use mir.Syntax.{w32}
-use mir.Val.{toZ, ofZ}
-use Rattle.sign.proofs.Laws.{same}
-use Rattle.numbers.proofs.Tests.{both}
+use Rattle.numbers.proofs.Tests.{both, chosen}
 use Rattle.items.specs.declared.Found.the-variants.{At}
-use Rattle.items.specs.ItemList.{Item, items, mapSize, itemList, noItem, itemAt, Sizes, firstFrom}
+use Rattle.items.specs.ItemList.{Item, items, mapSize, itemList, noItem, itemAt, lines, lineOf, Sizes, firstFrom}
 
 -- what is read at a place inside a list does not depend on what stands past its end
 pub read-inside : {A : Type 0} (l : List A) (i : ℕ) (d e : A) → i < length l → getD l i d ≡ getD l i e
@@ -27,17 +22,35 @@ read-inside [] i d e h = absurd (not-suc-le-zero h)
 read-inside (x ∷ xs) zero d e h = refl
 read-inside (x ∷ xs) (suc i) d e h = read-inside xs i d e (le-of-suc-le-suc h)
 
--- a column of the list, and what stands past the list
-pub column : {A : Type 0} (f : Item → A) (i : ℕ) (d : A) → i < items → getD (map f itemList) i d ≡ f (itemAt i)
-column f i d h = read-inside (map f itemList) i d (f noItem) h ∙ List·getD-map f itemList i noItem
+-- a list with what stands past its end as one line more
+one-line-more : {A : Type 0} (l : List A) (i : ℕ) (d : A) → getD (l ++ (d ∷ [])) i d ≡ getD l i d
+one-line-more [] zero d = refl
+one-line-more [] (suc i) d = refl
+one-line-more (x ∷ xs) zero d = refl
+one-line-more (x ∷ xs) (suc i) d = one-line-more xs i d
 
+-- past the list stands no item
 pub line-past : (i : ℕ) → items ≤ i → itemAt i ≡ noItem
 line-past i h = List·getD-eq-default itemList noItem h
 
--- a limit of an item, as the machine reads it off its column
-pub limit : (f : Item → ℤ) (i : ℕ) → i < items → mag (getD (map f itemList) i (pos 0)) < 2 ^ 31
-    → toZ w32 (ofZ w32 (getD (map f itemList) i (pos 0))) ≡ f (itemAt i)
-limit f i h fits = same _ fits ∙ column f i (pos 0) h
+-- a place has a line
+pub line-within : (i : ℕ) → lineOf i < length lines
+line-within i =
+    chosen (λ (k : ℕ). k < length lines) (ltb i items) (λ e. let h = ltb-true i items e in omega arith) (λ _. omega arith)
+
+-- a column has at the line of a place what the list says of the item there
+pub column : {A : Type 0} (f : Item → A) (i : ℕ) (d : A) → getD (map f lines) (lineOf i) d ≡ f (itemAt i)
+column f i d = by (ltb i items) refl
+  where
+    by : (t : Bool) → ltb i items ≡ t → getD (map f lines) (cond t i items) d ≡ f (itemAt i)
+    by true e =
+        let h = ltb-true i items e in
+        read-inside (map f lines) i d (f noItem) (omega arith) ∙ List·getD-map f lines i noItem ∙ ap f (one-line-more itemList i noItem)
+    by false e = ap f (sym (line-past i (ltb-false i items e)))
+
+-- inside the list it has that at the place itself
+pub column-inside : {A : Type 0} (f : Item → A) (i : ℕ) (d : A) → i < items → getD (map f lines) i d ≡ f (itemAt i)
+column-inside f i d h = rw (lt-ltb i items h) at (column f i d)
 
 -- what a function says of each number below n, in their order
 abbrev pub values : {A : Type 0} → (ℕ → A) → ℕ → List A

@@ -11,7 +11,7 @@ use lib.ListN.{getD, length}
 use Rattle.numbers.proofs.Tests.{both}
 use Rattle.items.specs.declared.Found.{Found}
 use Rattle.items.specs.declared.Found.the-variants.{At, Nothing}
-use Rattle.items.specs.ItemList.{Item, items, mapSize, itemList, noItem, itemAt, firstFrom, named, registered, found, foundByRegister}
+use Rattle.items.specs.ItemList.{Item, items, mapSize, itemList, noItem, itemAt, firstFrom, named, registered, found, foundByRegister, placeFound}
 use Rattle.items.proofs.Lists.{values, values-at}
 
 -- past the map no register is found
@@ -61,38 +61,39 @@ found-place a b j e =
 
 -- ---- the table of the map
 
--- what a search found, as an item's number, 0 for nothing
-abbrev numberFound : Found → ℕ
-numberFound (At i) = suc i
-numberFound Nothing = 0
+-- the place of the item that has a register, past the list where none has it
+abbrev pub placeAt : ℕ → ℕ
+placeAt r = placeFound (foundByRegister r)
 
-nothing-found : (f : Found) → numberFound f ≡ 0 → Nothing ≡ f
-nothing-found (At i) e = absurd (omega arith)
-nothing-found Nothing e = refl
+-- what was found is told by its place
+module _ (r : ℕ) where
+  place-small : placeAt r ≤ items
+  unfolding foundByRegister
+  place-small = by (foundByRegister r) refl
+    where
+      by : (f : Found) → foundByRegister r ≡ f → placeFound f ≤ items
+      by (At j) e = let inside = first-passes (registered r) itemList 0 j e .1 in omega arith
+      by Nothing e = omega arith
 
-place-found : (f : Found) (n : ℕ) → numberFound f ≡ n → (n ≡ 0 → ⊥) → At (n - 1) ≡ f
-place-found (At i) n e h = ap At (omega arith)
-place-found Nothing n e h = absurd (h (sym e))
+  at-place : (f : Found) → placeFound f < items → At (placeFound f) ≡ f
+  at-place (At j) h = refl
+  at-place Nothing h = absurd (omega arith)
 
--- the number of the item that has a register, 0 where none has it
-abbrev pub numberOf : ℕ → ℕ
-numberOf r = numberFound (foundByRegister r)
+  nothing-there : (f : Found) → foundByRegister r ≡ f → items ≤ placeFound f → Nothing ≡ f
+  unfolding foundByRegister
+  nothing-there (At j) e h = absurd (omega (arith, first-passes (registered r) itemList 0 j e .1))
+  nothing-there Nothing e h = refl
 
-number-listed : (r : ℕ) → numberOf r ≤ items
-unfolding foundByRegister
-number-listed r = by (foundByRegister r) refl
-  where
-    by : (f : Found) → foundByRegister r ≡ f → numberFound f ≤ items
-    by (At j) e = first-passes (registered r) itemList 0 j e .1
-    by Nothing e = omega arith
-
--- a table that holds that number for each register of the map: what is found by what it holds for one
+-- a table that holds that place for each register of the map: what is found by what it holds for one
 module _ (r : ℕ) (h : r < mapSize) where
-  pub none-has : getD (values numberOf mapSize) r 0 ≡ 0 → Nothing ≡ foundByRegister r
-  none-has e = nothing-found (foundByRegister r) (sym (values-at numberOf mapSize r 0 h) ∙ e)
+  holds : getD (values placeAt mapSize) r 0 ≡ placeAt r
+  holds = values-at placeAt mapSize r 0 h
 
-  pub item-has : (getD (values numberOf mapSize) r 0 ≡ 0 → ⊥) → At (getD (values numberOf mapSize) r 0 - 1) ≡ foundByRegister r
-  item-has some = place-found (foundByRegister r) _ (sym (values-at numberOf mapSize r 0 h)) some
+  pub held-small : getD (values placeAt mapSize) r 0 ≤ items
+  held-small = rw holds (place-small r)
 
-  pub number-small : getD (values numberOf mapSize) r 0 ≤ items
-  number-small = rw (values-at numberOf mapSize r 0 h) (number-listed r)
+  pub item-has : getD (values placeAt mapSize) r 0 < items → At (getD (values placeAt mapSize) r 0) ≡ foundByRegister r
+  item-has inside = rw holds (at-place r (foundByRegister r) (rw holds at inside))
+
+  pub none-has : items ≤ getD (values placeAt mapSize) r 0 → Nothing ≡ foundByRegister r
+  none-has past = nothing-there r (foundByRegister r) refl (rw holds at past)

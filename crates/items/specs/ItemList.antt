@@ -2,8 +2,8 @@
 use Prim.Native.Nat.{ℕ, suc, _<_}
 use mathlib.Core.Path.{_≡_}
 use mathlib.Core.Bool.{Bool, true, false, cond, _&&_}
-use mathlib.Core.List.{List, [], _∷_}
-use lib.Dec.{eqb, leb}
+use mathlib.Core.List.{List, [], _∷_, _++_}
+use lib.Dec.{eqb, leb, ltb}
 use lib.IntN.{ℤ, pos}
 use lib.ListN.{length, getD}
 use lib.Signed.{leZ}
@@ -69,6 +69,14 @@ noItem = line 0 0 0 read 0 (pos 1) (pos 0) (pos 0)
 -- the line at a place
 abbrev pub itemAt : ℕ → Item
 itemAt i = getD itemList i noItem
+
+-- the lines by which the code has the list: its own, and last the line that is no item
+abbrev pub lines : List Item
+lines = itemList ++ (noItem ∷ [])
+
+-- which of them is the line at a place: past the list the last one
+abbrev pub lineOf : ℕ → ℕ
+lineOf i = cond (ltb i items) i items
 
 -- the two sizes are the list's: it has that many lines, and the register of each is in the map
 pub record Sizes : Type 0 where

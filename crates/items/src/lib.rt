@@ -1,6 +1,6 @@
 // The item list: what it says of an item, and looking one up. Inside, an item is known by its place in the list, from 0.
 ghost use mathlib.Core.Path.{_≡_};
-ghost use Rattle.items.specs.ItemList.{itemAt, identifierOf, inRange, found, foundByRegister};
+ghost use Rattle.items.specs.ItemList.{lineOf, itemAt, identifierOf, inRange, found, foundByRegister};
 
 // What a search of the list finds: a place in it, or nothing.
 pub enum Found {
@@ -8,18 +8,22 @@ pub enum Found {
     Nothing,
 }
 
+// How many items there are.
 pub const ITEMS: usize = 12;
+
+// How many lines a column has: one for each item, and last the line that is no item.
+const LINES: usize = ITEMS + 1;
 
 // The registers from 0000H to 0012H.
 pub const MAP_SIZE: usize = 19;
 
 // The item list, a column for each thing that it says of an item but its register, in the list's order:
-// M1, AA, AB, B1, ER, S1, A1, A2, PB, PR, F1, TM.
-const FIRST: [u8; ITEMS] = *b"MAABESAAPPFT";
+// M1, AA, AB, B1, ER, S1, A1, A2, PB, PR, F1, TM, and no item.
+const FIRST: [u8; LINES] = *b"MAABESAAPPFT\0";
 
-const SECOND: [u8; ITEMS] = *b"1AB1R112BR1M";
+const SECOND: [u8; LINES] = *b"1AB1R112BR1M\0";
 
-const WRITABLE: [bool; ITEMS] = [
+const WRITABLE: [bool; LINES] = [
     false, // M1
     false, // AA
     false, // AB
@@ -32,31 +36,76 @@ const WRITABLE: [bool; ITEMS] = [
     true, // PR
     true, // F1
     true, // TM
+    false, // no item
 ];
 
-const DECIMALS: [u8; ITEMS] = [1, 0, 0, 0, 0, 1, 1, 1, 2, 3, 0, 0];
+const DECIMALS: [u8; LINES] = [1, 0, 0, 0, 0, 1, 1, 1, 2, 3, 0, 0, 0];
 
-pub const LOW: [i32; ITEMS] = [-1999, 0, 0, 0, 0, -1999, -1999, -1999, -1000, 500, 0, 0];
+pub const LOW: [i32; LINES] = [-1999, 0, 0, 0, 0, -1999, -1999, -1999, -1000, 500, 0, 0, 1];
 
-pub const HIGH: [i32; ITEMS] = [9999, 0, 0, 1, 255, 9999, 9999, 9999, 1000, 1500, 100, 999];
+pub const HIGH: [i32; LINES] = [
+    9999, // M1
+    0, // AA
+    0, // AB
+    1, // B1
+    255, // ER
+    9999, // S1
+    9999, // A1
+    9999, // A2
+    1000, // PB
+    1500, // PR
+    100, // F1
+    999, // TM
+    0, // no item
+];
 
-pub const START: [i32; ITEMS] = [0, 0, 0, 0, 0, 0, 500, 500, 0, 1000, 0, 0];
+pub const START: [i32; LINES] = [0, 0, 0, 0, 0, 0, 500, 500, 0, 1000, 0, 0, 0];
 
-// The number of the item that has this register, for each register of the map; 0 where none has it.
-const NUMBER_AT: [u8; MAP_SIZE] = [1, 2, 3, 4, 5, 0, 0, 0, 12, 0, 0, 6, 7, 0, 8, 0, 9, 10, 11];
+// The place at which the map has no item: past the list.
+const NO_ITEM: u8 = ITEMS as u8;
+
+// The place of the item that has this register, for each register of the map.
+const PLACE_AT: [u8; MAP_SIZE] = [
+    0, // 0000H
+    1, // 0001H
+    2, // 0002H
+    3, // 0003H
+    4, // 0004H
+    NO_ITEM, // 0005H
+    NO_ITEM, // 0006H
+    NO_ITEM, // 0007H
+    11, // 0008H
+    NO_ITEM, // 0009H
+    NO_ITEM, // 000AH
+    5, // 000BH
+    6, // 000CH
+    NO_ITEM, // 000DH
+    7, // 000EH
+    NO_ITEM, // 000FH
+    8, // 0010H
+    9, // 0011H
+    10, // 0012H
+];
+
+// The line of the item at a place; past the list the last one.
+fn line_of(i: usize) -> usize
+    ensures { λ r. ⌜ r ≡ lineOf i ⌝ }
+{
+    if i < ITEMS { i } else { ITEMS }
+}
 
 // The first character of an item's identifier; 0 past the list.
 fn first(i: usize) -> u8
     ensures { λ r. ⌜ r ≡ itemAt i .first ⌝ }
 {
-    if i < ITEMS { FIRST[i] } else { 0 }
+    FIRST[line_of(i)]
 }
 
 // The second character.
 fn second(i: usize) -> u8
     ensures { λ r. ⌜ r ≡ itemAt i .second ⌝ }
 {
-    if i < ITEMS { SECOND[i] } else { 0 }
+    SECOND[line_of(i)]
 }
 
 // The two characters of an item's identifier.
@@ -70,14 +119,28 @@ pub fn identifier(i: usize) -> [u8; 2]
 pub fn writable(i: usize) -> bool
     ensures { λ r. ⌜ r ≡ itemAt i .writable ⌝ }
 {
-    i < ITEMS && WRITABLE[i]
+    WRITABLE[line_of(i)]
 }
 
 // The decimals of an item; none past the list.
 pub fn decimals(i: usize) -> u8
     ensures { λ r. ⌜ r ≡ itemAt i .decimals ⌝ }
 {
-    if i < ITEMS { DECIMALS[i] } else { 0 }
+    DECIMALS[line_of(i)]
+}
+
+// The lowest value of an item.
+fn low(i: usize) -> i32
+    ensures { λ r. ⌜ r ≡ itemAt i .low ⌝ }
+{
+    LOW[line_of(i)]
+}
+
+// The highest; past the list it is below the lowest.
+fn high(i: usize) -> i32
+    ensures { λ r. ⌜ r ≡ itemAt i .high ⌝ }
+{
+    HIGH[line_of(i)]
 }
 
 // The item that two characters name.
@@ -102,11 +165,11 @@ pub fn find_register(register: u16) -> Found
     ensures { λ r. ⌜ r ≡ foundByRegister register ⌝ }
 {
     if (register as usize) < MAP_SIZE {
-        let number = NUMBER_AT[register as usize];
-        if number == 0 {
-            Found::Nothing
+        let place = PLACE_AT[register as usize] as usize;
+        if place < ITEMS {
+            Found::At(place)
         } else {
-            Found::At((number - 1) as usize)
+            Found::Nothing
         }
     } else {
         Found::Nothing
@@ -117,5 +180,5 @@ pub fn find_register(register: u16) -> Found
 pub fn in_range(i: usize, value: i32) -> bool
     ensures { λ r. ⌜ r ≡ inRange i value ⌝ }
 {
-    i < ITEMS && (LOW[i] <= value && value <= HIGH[i])
+    low(i) <= value && value <= high(i)
 }

@@ -1,19 +1,18 @@
--- `items::first` meets its contract: the column inside the list, and what stands past it. Assumes nothing.
+-- `items::first` meets its contract: a column has at the line of a place what the list says of the item there. Assumes nothing.
 use borrow.Author.Needs.{needs}
-use mathlib.Core.Path.{sym, ap}
 use Rattle.items.specs.ItemList.{Item}
-use Rattle.items.proofs.Lists.{column, line-past}
+use Rattle.items.proofs.Lists.{line-within, column}
 use Rattle.items.proofs.first.Statement.{statement}
 use Rattle.items.proofs.first.Tie as tie
 
+line-of-requires : tie.Need-line-of-requires
+line-of-requires c κs = search needs
+
 array-read-result : tie.Need-array-read-result
-array-read-result c = search needs
+array-read-result c = rw (c .line-of .ensures) (line-within (c .before .args .i))
 
 returns : tie.Need-returns
-returns c = column (λ (x : Item). x .first) (c .before .args .i) 0 (c .if1 .taken)
-
-returns-2 : tie.Need-returns-2
-returns-2 c = sym (ap (λ (x : Item). x .first) (line-past (c .before .args .i) (c .if1 .left)))
+returns c = rw (c .line-of .ensures) (column (λ (x : Item). x .first) (c .before .args .i) 0)
 
 pub first-spec : {M : Type 1} → statement M
-first-spec = tie.close (tie.spec array-read-result returns returns-2)
+first-spec = tie.close (tie.spec line-of-requires array-read-result returns)

@@ -1,23 +1,19 @@
--- `items::writable` meets its contract: the column inside the list, and what stands past it. Assumes nothing.
+-- `items::writable` meets its contract: a column has at the line of a place what the list says of the item there. Assumes nothing.
 use borrow.Author.Needs.{needs}
-use borrow.Author.Tests.{le-ltb}
-use mathlib.Core.Path.{sym, ap, _∙_}
 use mathlib.Core.Bool.{false}
-use Rattle.items.specs.ItemList.{Item, items}
-use Rattle.items.proofs.Lists.{column, line-past}
+use Rattle.items.specs.ItemList.{Item}
+use Rattle.items.proofs.Lists.{line-within, column}
 use Rattle.items.proofs.writable.Statement.{statement}
 use Rattle.items.proofs.writable.Tie as tie
 
+line-of-requires : tie.Need-line-of-requires
+line-of-requires c κs = search needs
+
 array-read-result : tie.Need-array-read-result
-array-read-result c = search needs
+array-read-result c = rw (c .line-of .ensures) (line-within (c .before .args .i))
 
 returns : tie.Need-returns
-returns c = column (λ (x : Item). x .writable) (c .before .args .i) false (c .if1 .taken)
-
-returns-2 : tie.Need-returns-2
-returns-2 c =
-    let i = c .before .args .i in
-    le-ltb i items (c .if1 .left) ∙ sym (ap (λ (x : Item). x .writable) (line-past i (c .if1 .left)))
+returns c = rw (c .line-of .ensures) (column (λ (x : Item). x .writable) (c .before .args .i) false)
 
 pub writable-spec : {M : Type 1} → statement M
-writable-spec = tie.close (tie.spec array-read-result returns returns-2)
+writable-spec = tie.close (tie.spec line-of-requires array-read-result returns)
