@@ -1,8 +1,10 @@
 // The lent table, which has one entry for each item: its check, its start values, what either line answers for an item,
 // storing a value, and the firmware's put.
 ghost use mathlib.Core.Path.{_≡_};
+ghost use lib.ListN.{length};
 ghost use Rattle.numbers.specs.Promise.{Lent};
-ghost use Rattle.table.specs.Table.{tableFault, startNumber, startTable, entry, alarm, answered, stored, putNumber, putTable};
+ghost use Rattle.items.specs.ItemList.{items, itemList};
+ghost use Rattle.table.specs.Table.{allInRange, tableFault, startNumber, startTable, entry, alarm, answered, stored, putNumber, putTable};
 use numbers::NONE;
 
 // The places of the alarm states, AA and AB, and of the items that they are worked out from.
@@ -25,14 +27,12 @@ pub const NO_SUCH_ITEM: u8 = 6;
 
 pub const VALUE_OUTSIDE: u8 = 7;
 
-// The table's fault: WRONG_LENGTH, ENTRY_OUTSIDE, or NONE.
-pub fn check(table: &[i32]) -> u8
-    ensures { λ r. ⌜ r ≡ tableFault (now (table .entry)) ⌝ }
+// Whether each entry is in the range of its item. Every entry is looked at, with no way out of the loop, so that the compiler
+// compares several at once.
+fn all_in_range(table: &[i32]) -> bool
+    requires { ⌜ length (now table) ≡ items ⌝ }
+    ensures { λ r. ⌜ r ≡ allInRange itemList (now (table .entry)) ⌝ }
 {
-    if table.len() != items::ITEMS {
-        return WRONG_LENGTH;
-    }
-    // Every entry is looked at, with no way out of the loop, so that the compiler compares several at once.
     let lows = items::LOW;
     let highs = items::HIGH;
     let mut inside = true;
@@ -42,7 +42,21 @@ pub fn check(table: &[i32]) -> u8
         inside = inside & (lows[i] <= value) & (value <= highs[i]);
         i += 1;
     }
-    if inside { NONE } else { ENTRY_OUTSIDE }
+    inside
+}
+
+// The table's fault: WRONG_LENGTH, ENTRY_OUTSIDE, or NONE.
+pub fn check(table: &[i32]) -> u8
+    ensures { λ r. ⌜ r ≡ tableFault (now (table .entry)) ⌝ }
+{
+    if table.len() != items::ITEMS {
+        return WRONG_LENGTH;
+    }
+    if all_in_range(table) {
+        NONE
+    } else {
+        ENTRY_OUTSIDE
+    }
 }
 
 // Every item takes its start value; a table of another length is left as it is.

@@ -5,13 +5,14 @@ use borrow.Author.Tests.{eq-eqb, ne-eqb}
 use mathlib.Core.Path.{_≡_, refl, sym, ap, _∙_}
 use Prim.Native.Nat.{_-_, _≤_}
 use native.Mathlib.Omega.{arith}
-use lib.IntN.{ℤ}
-use lib.ListN.{length, drop, length-set, drop-of-length-le}
+use lib.IntN.{ℤ, pos}
+use lib.ListN.{length, drop, length-set, drop-of-length-le, List·getD-map}
 use lib.Seq.{sets}
 use mathlib.Core.List.{List}
 use Rattle.sign.proofs.Laws.{same}
-use Rattle.items.specs.ItemList.{items}
-use Rattle.table.specs.Table.{startValues, startNumber, startTable, entry}
+use Rattle.items.specs.ItemList.{Item, items, itemList, noItem}
+use Rattle.items.proofs.Lists.{column-inside}
+use Rattle.table.specs.Table.{startValues, startNumber, startTable}
 use Rattle.table.proofs.Turns.{store-turn, store-all}
 use Rattle.table.proofs.start.Statement.{statement}
 use Rattle.table.proofs.start.Tie as tie
@@ -53,10 +54,12 @@ unfolding startValues
 loop-again c =
     let l = c .before .before in
     let i = l .loop .i in
-    let value = same (entry startValues i) (c .first .given) in (
+    let inside = c .before .loop-test .taken in
+    let start : Item → ℤ = λ x. x .start in
+    let value = same _ (c .first .given) ∙ column-inside start i (pos 0) inside ∙ sym (List·getD-map start itemList i noItem) in (
       search needs,
       simp length-set (l .loop .inv .1),
-      rw value (sym (store-turn (l .loop .table) startValues i (c .before .loop-test .taken)) ∙ l .loop .inv .2),
+      rw value (sym (store-turn (l .loop .table) startValues i inside) ∙ l .loop .inv .2),
     )
 
 same-length : tie.Need-same-length Inv-loop μ-loop
