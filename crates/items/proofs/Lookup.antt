@@ -11,7 +11,7 @@ use lib.ListN.{getD, length}
 use Rattle.numbers.proofs.Tests.{both}
 use Rattle.items.specs.declared.Found.{Found}
 use Rattle.items.specs.declared.Found.the-variants.{At, Nothing}
-use Rattle.items.specs.ItemList.{Item, items, mapSize, itemList, noItem, itemAt, firstFrom, named, registered, found, foundByRegister, placeFound}
+use Rattle.items.specs.ItemList.{Item, items, mapSize, itemList, noItem, itemAt, firstFrom, named, registered, found, foundByRegister, placeFound, placeOf}
 use Rattle.items.proofs.Lists.{values, values-at}
 
 -- past the map no register is found
@@ -59,41 +59,38 @@ found-place a b j e =
     let z : j - 0 ≡ j = omega arith in
     (r .1, sym (ap (λ (k : ℕ). named a b (itemAt k)) z) ∙ r .2)
 
--- ---- the table of the map
+-- ---- the place of the item that has a register
 
--- the place of the item that has a register, past the list where none has it
-abbrev pub placeAt : ℕ → ℕ
-placeAt r = placeFound (foundByRegister r)
-
--- what was found is told by its place
+-- it is past the list at most, and tells what was found
 module _ (r : ℕ) where
-  place-small : placeAt r ≤ items
-  unfolding foundByRegister
+  pub place-small : placeOf r ≤ items
+  unfolding placeOf foundByRegister
   place-small = by (foundByRegister r) refl
     where
       by : (f : Found) → foundByRegister r ≡ f → placeFound f ≤ items
       by (At j) e = let inside = first-passes (registered r) itemList 0 j e .1 in omega arith
       by Nothing e = omega arith
 
-  at-place : (f : Found) → placeFound f < items → At (placeFound f) ≡ f
-  at-place (At j) h = refl
-  at-place Nothing h = absurd (omega arith)
+  pub item-has : placeOf r < items → At (placeOf r) ≡ foundByRegister r
+  unfolding placeOf
+  item-has = by (foundByRegister r)
+    where
+      by : (f : Found) → placeFound f < items → At (placeFound f) ≡ f
+      by (At j) h = refl
+      by Nothing h = absurd (omega arith)
 
-  nothing-there : (f : Found) → foundByRegister r ≡ f → items ≤ placeFound f → Nothing ≡ f
-  unfolding foundByRegister
-  nothing-there (At j) e h = absurd (omega (arith, first-passes (registered r) itemList 0 j e .1))
-  nothing-there Nothing e h = refl
+  pub none-has : items ≤ placeOf r → Nothing ≡ foundByRegister r
+  unfolding placeOf foundByRegister
+  none-has = by (foundByRegister r) refl
+    where
+      by : (f : Found) → foundByRegister r ≡ f → items ≤ placeFound f → Nothing ≡ f
+      by (At j) e h = absurd (omega (arith, first-passes (registered r) itemList 0 j e .1))
+      by Nothing e h = refl
 
--- a table that holds that place for each register of the map: what is found by what it holds for one
-module _ (r : ℕ) (h : r < mapSize) where
-  holds : getD (values placeAt mapSize) r 0 ≡ placeAt r
-  holds = values-at placeAt mapSize r 0 h
+-- a table that holds it for each register of the map, and last for those past it
+pub held-inside : (r : ℕ) → r < mapSize → getD (values placeOf (suc mapSize)) r 0 ≡ placeOf r
+held-inside r h = values-at placeOf (suc mapSize) r 0 (omega arith)
 
-  pub held-small : getD (values placeAt mapSize) r 0 ≤ items
-  held-small = rw holds (place-small r)
-
-  pub item-has : getD (values placeAt mapSize) r 0 < items → At (getD (values placeAt mapSize) r 0) ≡ foundByRegister r
-  item-has inside = rw holds (at-place r (foundByRegister r) (rw holds at inside))
-
-  pub none-has : items ≤ getD (values placeAt mapSize) r 0 → Nothing ≡ foundByRegister r
-  none-has past = nothing-there r (foundByRegister r) refl (rw holds at past)
+pub held-past : (r : ℕ) → mapSize ≤ r → getD (values placeOf (suc mapSize)) mapSize 0 ≡ placeOf r
+unfolding placeOf foundByRegister
+held-past r h = sym (ap placeFound (nothing-past r h))

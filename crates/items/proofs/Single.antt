@@ -17,6 +17,9 @@ decimals = record { asksNothing = λ κs a. tt; single = λ κs a o u p q. singl
 pub find : OneOutcome items.find.ended items.find.Reads.Asked items.find.Reads.Post
 find = record { asksNothing = λ κs a. tt; single = λ κs a o u p q. single p q & refl }
 
+pub place-of : OneOutcome items.place_of.ended items.place_of.Reads.Asked items.place_of.Reads.Post
+place-of = record { asksNothing = λ κs a. tt; single = λ κs a o u p q. single p q & refl }
+
 pub find-register : OneOutcome items.find_register.ended items.find_register.Reads.Asked items.find_register.Reads.Post
 find-register = record { asksNothing = λ κs a. tt; single = λ κs a o u p q. single p q & refl }
 

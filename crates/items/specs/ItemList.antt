@@ -118,3 +118,7 @@ foundByRegister r = firstFrom 0 (registered r) itemList
 abbrev pub placeFound : Found → ℕ
 placeFound (At i) = i
 placeFound Nothing = items
+
+-- the place of the item that has a register
+unfoldable pub placeOf : ℕ → ℕ
+placeOf register = placeFound (foundByRegister register)

@@ -1,6 +1,6 @@
 // The item list: what it says of an item, and looking one up. Inside, an item is known by its place in the list, from 0.
 ghost use mathlib.Core.Path.{_≡_};
-ghost use Rattle.items.specs.ItemList.{lineOf, itemAt, identifierOf, inRange, found, foundByRegister};
+ghost use Rattle.items.specs.ItemList.{lineOf, itemAt, identifierOf, inRange, found, foundByRegister, placeOf};
 
 // What a search of the list finds: a place in it, or nothing.
 pub enum Found {
@@ -61,11 +61,11 @@ pub const HIGH: [i32; LINES] = [
 
 pub const START: [i32; LINES] = [0, 0, 0, 0, 0, 0, 500, 500, 0, 1000, 0, 0, 0];
 
-// The place at which the map has no item: past the list.
+// Past the list: what a register has that no item has.
 const NO_ITEM: u8 = ITEMS as u8;
 
-// The place of the item that has this register, for each register of the map.
-const PLACE_AT: [u8; MAP_SIZE] = [
+// The place of the item that has a register, for each register of the map, and last for those past it.
+const PLACE_AT: [u8; MAP_SIZE + 1] = [
     0, // 0000H
     1, // 0001H
     2, // 0002H
@@ -85,6 +85,7 @@ const PLACE_AT: [u8; MAP_SIZE] = [
     8, // 0010H
     9, // 0011H
     10, // 0012H
+    NO_ITEM, // past the map
 ];
 
 // The line of the item at a place; past the list the last one.
@@ -94,25 +95,12 @@ fn line_of(i: usize) -> usize
     if i < ITEMS { i } else { ITEMS }
 }
 
-// The first character of an item's identifier; 0 past the list.
-fn first(i: usize) -> u8
-    ensures { λ r. ⌜ r ≡ itemAt i .first ⌝ }
-{
-    FIRST[line_of(i)]
-}
-
-// The second character.
-fn second(i: usize) -> u8
-    ensures { λ r. ⌜ r ≡ itemAt i .second ⌝ }
-{
-    SECOND[line_of(i)]
-}
-
-// The two characters of an item's identifier.
+// The two characters of an item's identifier; 0 past the list.
 pub fn identifier(i: usize) -> [u8; 2]
     ensures { λ r. ⌜ r ≡ identifierOf (itemAt i) ⌝ }
 {
-    [first(i), second(i)]
+    let line = line_of(i);
+    [FIRST[line], SECOND[line]]
 }
 
 // Whether a host may write an item; nothing past the list.
@@ -160,17 +148,25 @@ pub fn find(a: u8, b: u8) -> Found
     Found::Nothing
 }
 
+// The place of the item that has a register; past the list where none has it.
+pub fn place_of(register: u16) -> usize
+    ensures { λ r. ⌜ r ≡ placeOf register ⌝ }
+{
+    let line = if (register as usize) < MAP_SIZE {
+        register as usize
+    } else {
+        MAP_SIZE
+    };
+    PLACE_AT[line] as usize
+}
+
 // The item that has a register.
 pub fn find_register(register: u16) -> Found
     ensures { λ r. ⌜ r ≡ foundByRegister register ⌝ }
 {
-    if (register as usize) < MAP_SIZE {
-        let place = PLACE_AT[register as usize] as usize;
-        if place < ITEMS {
-            Found::At(place)
-        } else {
-            Found::Nothing
-        }
+    let place = place_of(register);
+    if place < ITEMS {
+        Found::At(place)
     } else {
         Found::Nothing
     }

@@ -11,11 +11,11 @@ use lib.ListN.{length}
 use Rattle.numbers.specs.Numbers.{none, unless}
 use Rattle.numbers.proofs.Tests.{both, chosen}
 use Rattle.numbers.proofs.Order.{either-first, last-met, passed}
-use Rattle.items.specs.ItemList.{inRange}
+use Rattle.items.specs.ItemList.{inRange, placeOf}
 use Rattle.registers.specs.Register.{ofRegister}
 use Rattle.registers.specs.Faults.{wrongRegister, wrongData, bodyLength, rightLength, firstWord, secondWord}
 use Rattle.registers.specs.Faults.{mostRegisters, goodQuantity, inMap, readFault}
-use Rattle.registers.specs.Faults.{placeOf, writable, writeFault, loopbackFault}
+use Rattle.registers.specs.Faults.{writable, writeFault, loopbackFault}
 
 -- ---- numbers
 

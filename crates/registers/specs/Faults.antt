@@ -6,7 +6,7 @@ use lib.Dec.{eqb, leb}
 use lib.IntN.{ℤ}
 use lib.ListN.{getD, length}
 use Rattle.numbers.specs.Numbers.{unless, firstMet}
-use Rattle.items.specs.ItemList.{mapSize, itemAt, foundByRegister, placeFound, inRange}
+use Rattle.items.specs.ItemList.{mapSize, itemAt, inRange, placeOf}
 use Rattle.table.specs.Table.{stored}
 use Rattle.registers.specs.Register.{ofRegister, word}
 
@@ -53,10 +53,6 @@ readFault body =
     ∷ [])
 
 -- ---- 06H: a register and a value
-
--- the place of the item that has a register; past the list where none has it
-unfoldable pub placeOf : ℕ → ℕ
-placeOf register = placeFound (foundByRegister register)
 
 -- the register is that of a writable item
 abbrev pub writable : ℕ → Bool

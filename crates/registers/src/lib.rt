@@ -2,7 +2,7 @@
 ghost use mathlib.Core.Path.{_≡_};
 ghost use lib.ListN.{getD};
 ghost use Rattle.registers.specs.Register.{toRegister, ofRegister, word, registerAt};
-ghost use Rattle.registers.specs.Faults.{firstWord, secondWord, inMap, placeOf, written};
+ghost use Rattle.registers.specs.Faults.{firstWord, secondWord, inMap, written};
 ghost use Rattle.registers.specs.Faults.{readFault, writeFault, loopbackFault};
 use items::Found;
 use numbers::NONE;
@@ -102,16 +102,6 @@ pub fn read_fault(body: &[u8]) -> u8
 
 // ---- 06H: a register and a value
 
-// The place of the item that has a register; past the list where none has it.
-fn place_of(register: u16) -> usize
-    ensures { λ r. ⌜ r ≡ placeOf register ⌝ }
-{
-    match items::find_register(register) {
-        Found::At(i) => i,
-        Found::Nothing => items::ITEMS,
-    }
-}
-
 // The fault of a request to write, 0 for none.
 pub fn write_fault(body: &[u8]) -> u8
     ensures { λ r. ⌜ r ≡ writeFault (now (body .entry)) ⌝ }
@@ -119,7 +109,7 @@ pub fn write_fault(body: &[u8]) -> u8
     if body.len() != BODY_LENGTH {
         return WRONG_DATA;
     }
-    let i = place_of(first_word(body));
+    let i = items::place_of(first_word(body));
     if !items::writable(i) {
         return WRONG_REGISTER;
     }
@@ -136,7 +126,7 @@ pub fn store_value(table: &mut [i32], body: &[u8])
 {
     table::store(
         table,
-        place_of(first_word(body)),
+        items::place_of(first_word(body)),
         of_register(second_word(body)),
     );
 }

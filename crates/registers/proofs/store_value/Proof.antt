@@ -1,9 +1,10 @@
 -- `registers::store_value` meets its contract: the place and the value are those of the request. Assumes nothing.
 use mathlib.Core.Path.{ap, ap₂, _∙_}
 use Rattle.sign.proofs.Laws.{same}
+use Rattle.items.specs.ItemList.{placeOf}
 use Rattle.table.specs.Table.{stored}
 use Rattle.registers.specs.Register.{ofRegister}
-use Rattle.registers.specs.Faults.{placeOf, written}
+use Rattle.registers.specs.Faults.{written}
 use borrow.Author.Needs.{needs}
 use Rattle.registers.proofs.store_value.Statement.{statement}
 use Rattle.registers.proofs.store_value.Tie as tie

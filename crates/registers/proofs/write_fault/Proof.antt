@@ -6,9 +6,9 @@ use native.Mathlib.Omega.{arith}
 use borrow.Author.Tests.{not-true, not-false}
 use Rattle.numbers.specs.Numbers.{unless}
 use Rattle.sign.proofs.Laws.{same}
-use Rattle.items.specs.ItemList.{itemAt, inRange}
+use Rattle.items.specs.ItemList.{itemAt, inRange, placeOf}
 use Rattle.registers.specs.Register.{ofRegister}
-use Rattle.registers.specs.Faults.{wrongData, firstWord, placeOf, writable, writeFault}
+use Rattle.registers.specs.Faults.{wrongData, firstWord, writable, writeFault}
 use Rattle.registers.proofs.Faults.{write-length, write-refused, write-ranged}
 use borrow.Author.Needs.{needs}
 use Rattle.registers.proofs.write_fault.Statement.{statement}
