@@ -23,13 +23,13 @@ line c =
 array-read-result : tie.Need-array-read-result
 array-read-result c = line c .0
 
-cast-result : tie.Need-cast-result
-unfolding placeOf foundByRegister
-cast-result c = omega (arith, line c .1, place-small (c .before .args .register))
-
 returns : tie.Need-returns
 unfolding placeOf foundByRegister
 returns c = line c .1
+
+cast-result : tie.Need-cast-result
+unfolding placeOf foundByRegister
+cast-result c = omega (arith, line c .1, place-small (c .before .args .register))
 
 pub place-of-spec : {M : Type 1} → statement M
 place-of-spec = tie.close (tie.spec array-read-result cast-result returns)
