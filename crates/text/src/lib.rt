@@ -175,11 +175,12 @@ fn read_in(width: usize, decimals: u8, chars: &[u8]) -> Reading
     of_unsigned(minus, decimals as usize, &chars[minus as usize..])
 }
 
-// What the characters say of a value with so many decimals.
+// What the characters say of a value with so many decimals. They are lent on anew, so that the compiler hands on where they stand
+// and not where that is written.
 pub fn read(decimals: u8, chars: &[u8]) -> Reading
     ensures { λ r. ⌜ ReadAs width decimals (now (chars .entry)) r ⌝ }
 {
-    read_in(WIDTH, decimals, chars)
+    read_in(WIDTH, decimals, &chars[..])
 }
 
 // The characters of a value, or the number of a refusal and no characters.
