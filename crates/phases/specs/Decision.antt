@@ -4,7 +4,6 @@ use mathlib.Core.Bool.{Bool, cond, _&&_}
 use Prim.Native.Nat.{ℕ, _+_, _-_, _/_, _%_}
 use lib.Dec.{ltb, eqb}
 use Rattle.line.specs.Line.{STX, ETX, EOT, ENQ, ACK, NAK, within, printable, isLineError}
-use Rattle.items.specs.ItemList.{items}
 use Rattle.phases.specs.Phases.{rest, firstDigit, secondDigit, addressed, oneCharacter, twoCharacters, waiting, text, bccDue, answered}
 use Rattle.phases.specs.Phases.{notBelonging, notAwaited, listEnded}
 use Rattle.phases.specs.declared.Act.{Act}
@@ -45,9 +44,9 @@ abbrev pub atTwoCharacters : ℕ → ℕ → ℕ → Act
 atTwoCharacters first second c = cond (eqb c ENQ) (Poll first second) (astray c)
 
 -- ACK sends the next item of the list, after the last one EOT and rest; NAK sends the same item; any other byte: EOT, rest
-abbrev pub atWaiting : ℕ → ℕ → Act
-atWaiting item c =
-    cond (eqb c ACK) (cond (ltb item items) (Send (item + 1)) (Quit listEnded))
+abbrev pub atWaiting : ℕ → ℕ → ℕ → Act
+atWaiting last item c =
+    cond (eqb c ACK) (cond (ltb item last) (Send (item + 1)) (Quit listEnded))
     (cond (eqb c NAK) (Send item) (Quit notAwaited))
 
 -- all bytes but ETX (and EOT) are text
@@ -59,21 +58,21 @@ abbrev pub atAnswered : ℕ → Act
 atAnswered c = cond (eqb c STX) (Go text) (Go rest)
 
 -- each phase by its own rule; at rest all is ignored
-abbrev pub byPhase : ℕ → ℕ → ℕ → ℕ → ℕ → ℕ → Act
-byPhase phase first second item address c =
+abbrev pub byPhase : ℕ → ℕ → ℕ → ℕ → ℕ → ℕ → ℕ → Act
+byPhase last phase first second item address c =
     cond (eqb phase firstDigit) (atFirstDigit address c)
     (cond (eqb phase secondDigit) (atSecondDigit address c)
     (cond (eqb phase addressed) (atAddressed c)
     (cond (eqb phase oneCharacter) (atOneCharacter first c)
     (cond (eqb phase twoCharacters) (atTwoCharacters first second c)
-    (cond (eqb phase waiting) (atWaiting item c)
+    (cond (eqb phase waiting) (atWaiting last item c)
     (cond (eqb phase text) (atText c)
     (cond (eqb phase answered) (atAnswered c)
     (Go rest))))))))
 
 -- where a BCC is due, any byte is the BCC, also one that looks like EOT; in each other phase EOT calls for the address
-unfoldable pub decided : ℕ → ℕ → ℕ → ℕ → ℕ → ℕ → Act
-decided phase first second item address c =
+unfoldable pub decided : ℕ → ℕ → ℕ → ℕ → ℕ → ℕ → ℕ → Act
+decided last phase first second item address c =
     cond (eqb phase bccDue) (Judge c)
     (cond (eqb c EOT) (Go firstDigit)
-    (byPhase phase first second item address c))
+    (byPhase last phase first second item address c))

@@ -117,11 +117,11 @@ fn at_two_characters(first: u8, second: u8, c: u8) -> Act
 }
 
 // The host goes on through the list by ACK and asks again by NAK. Past the last item there is no next one, whatever the item.
-fn at_waiting(item: u8, c: u8) -> Act
-    ensures { λ r. ⌜ r ≡ atWaiting item c ⌝ }
+fn at_waiting(last: u8, item: u8, c: u8) -> Act
+    ensures { λ r. ⌜ r ≡ atWaiting last item c ⌝ }
 {
     match c {
-        ACK => if (item as usize) < items::ITEMS {
+        ACK => if item < last {
             Act::Send(item + 1)
         } else {
             Act::Quit(LIST_ENDED)
@@ -151,10 +151,11 @@ fn at_answered(c: u8) -> Act
     }
 }
 
-// What a byte asks for in a phase. Of first and second (the kept identifier characters), item (the one sent last) and address
-// it uses those that the phase has. The BCC comes before EOT: a byte in its place is the BCC, also one that looks like EOT.
-pub fn decide(phase: u8, first: u8, second: u8, item: u8, address: u8, c: u8) -> Act
-    ensures { λ r. ⌜ r ≡ decided phase first second item address c ⌝ }
+// What a byte asks for in a phase. Of last (the number of the list's last item), first and second (the kept identifier
+// characters), item (the one sent last) and address it uses those that the phase has. The BCC comes before EOT: a byte in its
+// place is the BCC, also one that looks like EOT.
+pub fn decide(last: u8, phase: u8, first: u8, second: u8, item: u8, address: u8, c: u8) -> Act
+    ensures { λ r. ⌜ r ≡ decided last phase first second item address c ⌝ }
 {
     if phase == BCC_DUE {
         return Act::Judge(c);
@@ -168,7 +169,7 @@ pub fn decide(phase: u8, first: u8, second: u8, item: u8, address: u8, c: u8) ->
         ADDRESSED => at_addressed(c),
         ONE_CHARACTER => at_one_character(first, c),
         TWO_CHARACTERS => at_two_characters(first, second, c),
-        WAITING => at_waiting(item, c),
+        WAITING => at_waiting(last, item, c),
         TEXT => at_text(c),
         ANSWERED => at_answered(c),
         _ => Act::Go(REST),

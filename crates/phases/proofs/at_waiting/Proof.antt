@@ -3,7 +3,6 @@
 use native.Mathlib.Omega.{arith}
 use borrow.Author.Needs.{needs}
 use borrow.Author.Tests.{lt-ltb, le-ltb, ne-eqb}
-use Rattle.items.specs.ItemList.{items}
 use Rattle.phases.proofs.at_waiting.Statement.{statement}
 use Rattle.phases.proofs.at_waiting.Tie as tie
 
@@ -12,13 +11,13 @@ add-t7 c = search needs
 
 returns : tie.Need-returns
 returns c =
-    let item = c .before .before .args .item in
-    rw (c .before .match .keys1) (simp (lt-ltb item items (omega arith)))
+    let a = c .before .before .args in
+    rw (c .before .match .keys1) (simp (lt-ltb (a .item) (a .last) (omega arith)))
 
 returns-2 : tie.Need-returns-2
 returns-2 c =
-    let item = c .before .before .args .item in
-    rw (c .before .match .keys1) (simp (le-ltb item items (omega arith)))
+    let a = c .before .before .args in
+    rw (c .before .match .keys1) (simp (le-ltb (a .item) (a .last) (omega arith)))
 
 returns-3 : tie.Need-returns-3
 returns-3 c = rw (c .match .keys2)
