@@ -6,7 +6,6 @@ use Prim.Native.Nat.{ℕ, _/_, _%_}
 use borrow.Author.Tests.{eqb-true}
 use lib.Dec.{eqb, ltb}
 use Rattle.numbers.proofs.Tests.{chosen}
-use Rattle.items.specs.ItemList.{items}
 use Rattle.line.specs.Line.{STX, ETX, EOT, ENQ, ACK, NAK, printable, isLineError}
 use Rattle.phases.specs.Phases.{firstDigit, secondDigit, addressed, oneCharacter, twoCharacters, waiting, text, bccDue, answered}
 use Rattle.phases.specs.Phases.{notBelonging, notAwaited, listEnded}
@@ -20,9 +19,9 @@ module _ (P : Act → Type 0) (go : (phase : ℕ) → P (Go phase)) (first : (a 
   astray-act : (c : ℕ) → P (astray c)
   astray-act c = chosen P (isLineError c) (λ _. go _) (λ _. strayed)
 
-  module _ (phase a b item address c : ℕ) where
+  module _ (last phase a b item address c : ℕ) where
     -- outside a block
-    pub outside-act : eqb phase bccDue ≡ false → eqb phase text ≡ false → P (decided phase a b item address c)
+    pub outside-act : eqb phase bccDue ≡ false → eqb phase text ≡ false → P (decided last phase a b item address c)
     unfolding decided
     outside-act p q =
         simp (p, q)
@@ -33,15 +32,15 @@ module _ (P : Act → Type 0) (go : (phase : ℕ) → P (Go phase)) (first : (a 
         (λ _. chosen P (eqb phase oneCharacter) (λ _. chosen P (printable c) (λ _. both _ _) (λ _. astray-act c))
         (λ _. chosen P (eqb phase twoCharacters) (λ _. chosen P (eqb c ENQ) (λ _. poll _ _) (λ _. astray-act c))
         (λ _. chosen P (eqb phase waiting)
-        (λ _. chosen P (eqb c ACK) (λ _. chosen P (ltb item items) (λ _. send _) (λ _. end)) (λ _. chosen P (eqb c NAK) (λ _. send _) (λ _. unawaited)))
+        (λ _. chosen P (eqb c ACK) (λ _. chosen P (ltb item last) (λ _. send _) (λ _. end)) (λ _. chosen P (eqb c NAK) (λ _. send _) (λ _. unawaited)))
         (λ _. chosen P (eqb phase answered) (λ _. chosen P (eqb c STX) (λ _. go _) (λ _. go _)) (λ _. go _)))))))))
 
     -- and in one
-    pub every-act : ((c : ℕ) → P (More c)) → P Ended → ((c : ℕ) → P (Judge c)) → P (decided phase a b item address c)
+    pub every-act : ((c : ℕ) → P (More c)) → P Ended → ((c : ℕ) → P (Judge c)) → P (decided last phase a b item address c)
     unfolding decided
     every-act more ended judge = by (eqb phase bccDue) (eqb phase text) refl refl
       where
-        by : (x y : Bool) → eqb phase bccDue ≡ x → eqb phase text ≡ y → P (decided phase a b item address c)
+        by : (x y : Bool) → eqb phase bccDue ≡ x → eqb phase text ≡ y → P (decided last phase a b item address c)
         by true y p q = rw p (judge c)
         by false true p q = rw (eqb-true phase text q) (chosen P (eqb c EOT) (λ _. go _) (λ _. chosen P (eqb c ETX) (λ _. ended) (λ _. more c)))
         by false false p q = outside-act p q

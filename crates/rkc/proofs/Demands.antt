@@ -15,7 +15,7 @@ use lib.Signed.{leZ}
 use Rattle.numbers.specs.Numbers.{none}
 use Rattle.numbers.proofs.Tests.{contrary, chosen}
 use Rattle.numbers.proofs.Order.{either-way}
-use Rattle.items.specs.ItemList.{itemAt, inRange}
+use Rattle.items.specs.ItemList.{items, itemAt, inRange}
 use Rattle.table.specs.Table as table
 use Rattle.table.specs.Table.{goodTable, entry, stored}
 use Rattle.table.proofs.Laws.{good-stored, stored-in-range, stored-read-only, answered-AA, answered-AB}
@@ -96,7 +96,7 @@ module _ (call : ByteCall) where
   by-outcome = either-way (byteFault call) (λ number. keeping (call .table) (handedBack (call .link) number)) (done call)
 
   -- the act that is asked for is limited
-  limited : byteFault call ≡ none → Limited (asked (used (call .link)) (call .address) (heard (call .structure) (call .byte)))
+  limited : byteFault call ≡ none → Limited items (asked (used (call .link)) (call .address) (heard (call .structure) (call .byte)))
   limited z = asked-limited (call .link) (byte-none call z .step .limits) (call .address) (heard (call .structure) (call .byte))
 
   after : byteFault call ≡ none → inLimits (received call .step .link) ≡ true

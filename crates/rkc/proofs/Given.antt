@@ -103,7 +103,7 @@ refused n r =
 
 module _ (l : Link) (t : List ℤ) (good : goodTable t ≡ true) (structure time : ℕ) where
   abbrev Numbered : Act → Type 0
-  Numbered x = Limited x → oneOf byteNumbers (performed l t structure time x .step .number) ≡ true
+  Numbered x = Limited items x → oneOf byteNumbers (performed l t structure time x .step .number) ≡ true
 
   polled-numbers : (a b : ℕ) (f : Found) → found a b ≡ f → oneOf byteNumbers (polled structure time t f .number) ≡ true
   polled-numbers a b (At i) e = rw (always-sent i (found-place a b i e .0) structure time t good)
@@ -120,7 +120,7 @@ module _ (l : Link) (t : List ℤ) (good : goodTable t ≡ true) (structure time
       every-act Numbered (λ p _. refl) (λ a _. refl) (λ a b _. refl) (λ a b _. polled-numbers a b (found a b) refl)
       (λ item h. rw (always-sent (item - 1) (omega (arith, h .0, h .1)) structure time t good))
       (λ _. refl) (λ _. refl) (λ _. refl)
-      (l .phase) _ _ (l .item) address c (λ c _. refl) (λ _. refl) (λ c _. judged-numbers c)
+      items (l .phase) _ _ (l .item) address c (λ c _. refl) (λ _. refl) (λ c _. judged-numbers c)
 
 -- ---- each number is given: the definitions compute
 

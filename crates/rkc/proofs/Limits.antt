@@ -37,16 +37,16 @@ module _ (l : Link) (h : inLimits l ≡ true) where
   unfolding used inLimits
   first-small e = rw (eq-eqb _ _ e) (ltb-true _ _ (rw (eq-eqb _ _ e) at h))
 
-  item-listed : l .phase ≡ waiting → Listed (used l .item)
+  item-listed : l .phase ≡ waiting → Listed items (used l .item)
   unfolding used inLimits
   item-listed e = rw e (within-true _ _ _ (rw e at h))
 
-  pub asked-limited : (address c : ℕ) → Limited (asked (used l) address c)
+  pub asked-limited : (address c : ℕ) → Limited items (asked (used l) address c)
   asked-limited address c =
-      decided-limited (used l .phase) (getD (used l .kept) 0 0) (getD (used l .kept) 1 0) (used l .item) address c
+      decided-limited items (used l .phase) (getD (used l .kept) 0 0) (getD (used l .kept) 1 0) (used l .item) address c
       (λ e. first-small (sym (used-phase l) ∙ e)) (λ e. item-listed (sym (used-phase l) ∙ e))
 
-  pub act-limited : (address c : ℕ) {x : Act} → x ≡ asked l address c → Limited x
+  pub act-limited : (address c : ℕ) {x : Act} → x ≡ asked l address c → Limited items x
   act-limited address c e = rw (e ∙ sym (asked-used l address c)) (asked-limited address c)
 
 -- ---- what a step leaves is within its limits
@@ -139,7 +139,7 @@ item-limits structure time t i h =
     (λ _. within-in 1 items (i + 1) (omega arith) (omega arith))
     (λ _. refl)
 
-pub performed-limits : (l : Link) (t : List ℤ) (structure time : ℕ) (x : Act) → Small l → Limited x
+pub performed-limits : (l : Link) (t : List ℤ) (structure time : ℕ) (x : Act) → Small l → Limited items x
     → inLimits (performed l t structure time x .step .link) ≡ true
 unfolding performed inLimits
 performed-limits l t structure time (Go phase) s x = in-phase-limits phase (x .0) (x .1)

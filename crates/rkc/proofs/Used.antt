@@ -15,7 +15,7 @@ use Rattle.numbers.proofs.Tests.{contrary}
 use Rattle.numbers.proofs.Order.{none-at, test-held}
 use Rattle.kept.specs.Kept.{upTo}
 use Rattle.kept.proofs.Cut.{up-to-at, up-to-take}
-use Rattle.items.specs.ItemList.{itemAt}
+use Rattle.items.specs.ItemList.{items, itemAt}
 use Rattle.text.specs.Numbers.{width}
 use Rattle.text.specs.Reading.{readValue}
 use Rattle.phases.specs.Phases.{oneCharacter, twoCharacters, waiting, text, bccDue}
@@ -95,24 +95,24 @@ judged-up-to structure t l c = by (leb identifierLength (l .count)) refl
 -- ---- what a character asks for
 
 -- one character has its own, two have both, waiting has the item
-module _ (a b i b′ i′ address c : ℕ) where
-  decided-one : decided oneCharacter a b i address c ≡ decided oneCharacter a b′ i′ address c
+module _ (last a b i b′ i′ address c : ℕ) where
+  decided-one : decided last oneCharacter a b i address c ≡ decided last oneCharacter a b′ i′ address c
   unfolding decided
   decided-one = refl
 
-  decided-two : decided twoCharacters a b i address c ≡ decided twoCharacters a b i′ address c
+  decided-two : decided last twoCharacters a b i address c ≡ decided last twoCharacters a b i′ address c
   unfolding decided
   decided-two = refl
 
-  decided-waiting : decided waiting a b i address c ≡ decided waiting b′ i′ i address c
+  decided-waiting : decided last waiting a b i address c ≡ decided last waiting b′ i′ i address c
   unfolding decided
   decided-waiting = refl
 
 -- other phases have none of them
-decided-other : (phase a b i a′ b′ i′ address c : ℕ) → eqb phase oneCharacter ≡ false → eqb phase twoCharacters ≡ false → eqb phase waiting ≡ false
-    → decided phase a b i address c ≡ decided phase a′ b′ i′ address c
+decided-other : (last phase a b i a′ b′ i′ address c : ℕ) → eqb phase oneCharacter ≡ false → eqb phase twoCharacters ≡ false → eqb phase waiting ≡ false
+    → decided last phase a b i address c ≡ decided last phase a′ b′ i′ address c
 unfolding decided
-decided-other phase a b i a′ b′ i′ address c p q r = simp (p, q, r)
+decided-other last phase a b i a′ b′ i′ address c p q r = simp (p, q, r)
 
 pub asked-used : (l : Link) (address c : ℕ) → asked (used l) address c ≡ asked l address c
 unfolding used
@@ -128,17 +128,17 @@ asked-used l address c =
     by : (a b w d : Bool) → eqb (l .phase) oneCharacter ≡ a → eqb (l .phase) twoCharacters ≡ b → eqb (l .phase) waiting ≡ w
         → asked (cond a (holdingOne k0) (cond b (holdingTwo k0 k1) (cond w (waitingOn (l .item) (l .time)) (cond d (asBlock l) (inPhase (l .phase)))))) address c
         ≡ asked l address c
-    by true b w d p q r = rw (eqb-true (l .phase) oneCharacter p) (decided-one k0 0 0 k1 (l .item) address c)
-    by false true w d p q r = rw (eqb-true (l .phase) twoCharacters q) (decided-two k0 k1 0 k1 (l .item) address c)
-    by false false true d p q r = rw (eqb-true (l .phase) waiting r) (decided-waiting 0 0 (l .item) k0 k1 address c)
-    by false false false true p q r = decided-other (l .phase) _ _ _ _ _ _ address c p q r
-    by false false false false p q r = decided-other (l .phase) _ _ _ _ _ _ address c p q r
+    by true b w d p q r = rw (eqb-true (l .phase) oneCharacter p) (decided-one items k0 0 0 k1 (l .item) address c)
+    by false true w d p q r = rw (eqb-true (l .phase) twoCharacters q) (decided-two items k0 k1 0 k1 (l .item) address c)
+    by false false true d p q r = rw (eqb-true (l .phase) waiting r) (decided-waiting items 0 0 (l .item) k0 k1 address c)
+    by false false false true p q r = decided-other items (l .phase) _ _ _ _ _ _ address c p q r
+    by false false false false p q r = decided-other items (l .phase) _ _ _ _ _ _ address c p q r
 
 -- ---- what is done
 
 -- outside a block no act asks for the state
-outside-same : (l k : Link) (t : List ℤ) (structure time phase a b item address c : ℕ) → eqb phase bccDue ≡ false → eqb phase text ≡ false
-    → performed l t structure time (decided phase a b item address c) ≡ performed k t structure time (decided phase a b item address c)
+outside-same : (l k : Link) (t : List ℤ) (structure time last phase a b item address c : ℕ) → eqb phase bccDue ≡ false → eqb phase text ≡ false
+    → performed l t structure time (decided last phase a b item address c) ≡ performed k t structure time (decided last phase a b item address c)
 unfolding performed
 outside-same l k t structure time =
     outside-act (λ (x : Act). performed l t structure time x ≡ performed k t structure time x) (λ p. refl) (λ a. refl) (λ a b. refl)
@@ -158,4 +158,4 @@ performed-used l t structure time address c = by (eqb (l .phase) bccDue) (eqb (l
         → performed (used l) t structure time (asked l address c) ≡ performed (asBlock l) t structure time (asked l address c)
     by true b p q = ap (λ (k : Link). performed k t structure time (asked l address c)) (used-block l bccDue (eqb-true _ _ p) refl refl refl refl)
     by false true p q = ap (λ (k : Link). performed k t structure time (asked l address c)) (used-block l text (eqb-true _ _ q) refl refl refl refl)
-    by false false p q = outside-same (used l) (asBlock l) t structure time (l .phase) _ _ _ address c p q
+    by false false p q = outside-same (used l) (asBlock l) t structure time items (l .phase) _ _ _ address c p q

@@ -8,7 +8,7 @@ use lib.ListN.{length, getD}
 use Rattle.numbers.specs.Numbers.{none, unless, firstMet, unlessMet, shortBuffer, leastBuffer, badSetting, lastAddress}
 use Rattle.items.specs.declared.Found.{Found}
 use Rattle.items.specs.declared.Found.the-variants.{At, Nothing}
-use Rattle.items.specs.ItemList.{itemAt, found}
+use Rattle.items.specs.ItemList.{items, itemAt, found}
 use Rattle.table.specs.Table.{tableFault, answered, stored}
 use Rattle.line.specs.Line.{STX, ETX, EOT, ACK, NAK, lastStructure, sent, heard, bcc}
 use Rattle.text.specs.Numbers.{width}
@@ -117,7 +117,7 @@ performed l t structure time (Judge c) = judged structure t l c
 
 -- what a byte, as it was heard, asks for in a state
 abbrev pub asked : Link → ℕ → ℕ → Act
-asked l address c = decided (l .phase) (getD (l .kept) 0 0) (getD (l .kept) 1 0) (l .item) address c
+asked l address c = decided items (l .phase) (getD (l .kept) 0 0) (getD (l .kept) 1 0) (l .item) address c
 
 -- ---- what every step looks at
 

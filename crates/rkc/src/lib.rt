@@ -37,6 +37,9 @@ pub struct Stepped {
     pub len: usize,
 }
 
+// The number of the list's last item, counted from 1.
+const LAST_ITEM: u8 = items::ITEMS as u8;
+
 // The number of a host that fell silent.
 const TIMED_OUT: u8 = 44;
 
@@ -75,7 +78,15 @@ impl Link {
         if number == 0 {
             let kept = self.kept;
             let c = line::heard(structure, byte);
-            let act = phases::decide(self.phase, kept[0], kept[1], self.item, address, c);
+            let act = phases::decide(
+                LAST_ITEM,
+                self.phase,
+                kept[0],
+                kept[1],
+                self.item,
+                address,
+                c,
+            );
             self.perform(act, table, reply, structure, time)
         } else {
             handed_back(self, number)

@@ -90,7 +90,7 @@ impl Link {
         structure: u8,
         time: u32,
     ) -> Stepped
-        requires { ⌜ (leastBuffer ≤ length (now reply)) × Limited act ⌝ }
+        requires { ⌜ (leastBuffer ≤ length (now reply)) × Limited items act ⌝ }
         ensures { λ r. ⌜ Does (performed (asBlock self) (now (table .entry)) structure time act) r
             (now (reply .entry)) (now (reply .exit)) (now (table .exit)) ⌝ }
     {
