@@ -24,16 +24,17 @@ pub const READ_ONLY: u8 = 17;
 
 pub const OUT_OF_RANGE: u8 = 18;
 
-// How many characters an identifier has, and how many of a block are kept: the identifier and six more.
-const IDENTIFIER_LENGTH: u8 = 2;
+// How many characters an identifier has, and how many of a block are kept: the identifier and a number.
+const IDENTIFIER_LENGTH: usize = 2;
 
-const MOST_KEPT: u8 = 8;
+pub const MOST_KEPT: usize = IDENTIFIER_LENGTH + text::WIDTH;
 
 // The verdict on a block that was marked or not, with the BCC of its text and ETX, the count of its characters, those that
 // were kept, and the byte in the BCC's place as it was heard.
-pub fn judge(mark: bool, bcc: u8, count: u8, kept: [u8; 8], c: u8) -> Verdict
+pub fn judge(mark: bool, bcc: u8, count: u8, kept: [u8; MOST_KEPT], c: u8) -> Verdict
     ensures { λ r. ⌜ Judges mark bcc count kept c r ⌝ }
 {
+    let count = count as usize;
     if mark || line::TOP_BIT <= c {
         return Verdict::Refuse(LINE_ERROR);
     }
@@ -49,8 +50,7 @@ pub fn judge(mark: bool, bcc: u8, count: u8, kept: [u8; 8], c: u8) -> Verdict
     if MOST_KEPT < count {
         return Verdict::Refuse(OVER_SIX_CHARACTERS);
     }
-    let end = count as usize;
-    let read = text::read(items::decimals(i), &kept[IDENTIFIER_LENGTH as usize..end]);
+    let read = text::read(items::decimals(i), &kept[IDENTIFIER_LENGTH..count]);
     let Reading::Value(v) = read else {
         return Verdict::Refuse(read.number());
     };
