@@ -11,7 +11,7 @@ use Rattle.table.specs.Table.{startValues}
 use Rattle.line.specs.Line.{ENQ, ACK}
 use Rattle.phases.specs.Phases.{rest, bccDue}
 use Rattle.rkc.specs.declared.Link.{Link}
-use Rattle.rkc.specs.State.{noneKept, inPhase, holdingOne, holdingTwo, waitingOn, block}
+use Rattle.rkc.specs.State.{filled, noneKept, inPhase, holdingOne, holdingTwo, waitingOn, block, mostCounted}
 use Rattle.rkc.specs.Outcome.{ByteCall, IdleCall}
 
 -- n is one of these
@@ -44,7 +44,7 @@ heardIn l byte =
 
 -- a block of three characters at most whose BCC is due and is 0
 abbrev due : ℕ → ℕ → ℕ → ℕ → Link
-due count a b c = block bccDue count 0 false (a ∷ b ∷ c ∷ 0 ∷ 0 ∷ 0 ∷ 0 ∷ 0 ∷ [])
+due count a b c = block bccDue count 0 false (filled (a ∷ b ∷ c ∷ []))
 
 -- A call for each number, in the order of the two lists. The faults: no table; PR at 0, which is from 500 on; no buffer; address
 -- 100; phase 10. The others: a byte at rest; a marked block; BCC 1 for 0; no text; no item; "PB" with more than six characters,
@@ -61,7 +61,7 @@ byteExamples =
     ∷ heardIn (due 0 0 0 0) 1
     ∷ heardIn (due 0 0 0 0) 0
     ∷ heardIn (due 2 0 0 0) 0
-    ∷ heardIn (due 9 0x50 0x42 0x30) 0
+    ∷ heardIn (due mostCounted 0x50 0x42 0x30) 0
     ∷ heardIn (due 2 0x50 0x42 0) 0
     ∷ heardIn (due 3 0x4D 0x31 0x30) 0
     ∷ heardIn (due 3 0x50 0x52 0x30) 0

@@ -1,19 +1,24 @@
 -- The states of the link: what each phase uses, and the limits of it.
 use mathlib.Core.Bool.{Bool, true, false, cond, _&&_, _||_}
-use mathlib.Core.List.{List, [], _∷_}
-use Prim.Native.Nat.{ℕ, _+_}
+use mathlib.Core.List.{List, [], _∷_, _++_}
+use Prim.Native.Nat.{ℕ, _+_, _-_}
 use lib.Bits.{bitXor}
 use lib.Dec.{leb, ltb, eqb}
-use lib.ListN.{getD, set}
+use lib.ListN.{length, getD, set, replicate}
 use Rattle.kept.specs.Kept.{upTo}
 use Rattle.items.specs.ItemList.{listed}
 use Rattle.line.specs.Line.{ETX, topBit, lowSeven, isLineError, within}
 use Rattle.phases.specs.Phases.{oneCharacter, twoCharacters, waiting, text, bccDue, answered}
+use Rattle.block.specs.Block.{mostKept}
 use Rattle.rkc.specs.declared.Link.{Link}
 
--- no kept characters
+-- the kept characters, and 0 in each place after them
+abbrev pub filled : List ℕ → List ℕ
+filled cs = cs ++ replicate (mostKept - length cs) 0
+
+-- no characters
 abbrev pub noneKept : List ℕ
-noneKept = 0 ∷ 0 ∷ 0 ∷ 0 ∷ 0 ∷ 0 ∷ 0 ∷ 0 ∷ []
+noneKept = filled []
 
 -- a phase that uses nothing
 abbrev pub inPhase : ℕ → Link
@@ -22,11 +27,11 @@ inPhase phase = record { phase = phase; item = 0; count = 0; bcc = 0; mark = fal
 -- the identifier phases use only their one or two kept characters
 abbrev pub holdingOne : ℕ → Link
 holdingOne a =
-    record { phase = oneCharacter; item = 0; count = 0; bcc = 0; mark = false; kept = a ∷ 0 ∷ 0 ∷ 0 ∷ 0 ∷ 0 ∷ 0 ∷ 0 ∷ []; time = 0 }
+    record { phase = oneCharacter; item = 0; count = 0; bcc = 0; mark = false; kept = filled (a ∷ []); time = 0 }
 
 abbrev pub holdingTwo : ℕ → ℕ → Link
 holdingTwo a b =
-    record { phase = twoCharacters; item = 0; count = 0; bcc = 0; mark = false; kept = a ∷ b ∷ 0 ∷ 0 ∷ 0 ∷ 0 ∷ 0 ∷ 0 ∷ []; time = 0 }
+    record { phase = twoCharacters; item = 0; count = 0; bcc = 0; mark = false; kept = filled (a ∷ b ∷ []); time = 0 }
 
 -- waiting uses item and time
 abbrev pub waitingOn : ℕ → ℕ → Link
@@ -64,14 +69,14 @@ abbrev pub allCharacters : List ℕ → Bool
 allCharacters [] = true
 allCharacters (c ∷ cs) = isCharacter c && allCharacters cs
 
--- the count stops here
+-- the count stops at one more than are kept, which tells that a block is too long
 abbrev pub mostCounted : ℕ
-mostCounted = 9
+mostCounted = mostKept + 1
 
 abbrev pub blockInLimits : Link → Bool
 blockInLimits l = leb (l .count) mostCounted && (isCharacter (l .bcc) && allCharacters (upTo (l .count) (l .kept)))
 
--- a known phase, a waiting item of the list, a count up to 9, no kept character or BCC of 80H up: as far as the phase uses them
+-- a known phase, a waiting item of the list, a count as far as it goes, no kept character or BCC of 80H up: as far as the phase uses them
 unfoldable pub inLimits : Link → Bool
 inLimits l =
     cond (eqb (l .phase) oneCharacter) (isCharacter (getD (l .kept) 0 0))
@@ -82,11 +87,11 @@ inLimits l =
 
 -- ---- a block's text
 
--- one more is counted, up to 9
+-- one more is counted, as far as the count goes
 abbrev pub oneMore : ℕ → ℕ
 oneMore count = cond (ltb count mostCounted) (count + 1) mostCounted
 
--- one more character of the text, as it was heard: counted, kept in its place if there is one of the eight left, taken into the
+-- one more character of the text, as it was heard: counted, kept in its place if there is one left, taken into the
 -- BCC as its low seven bits; a line error marks the block
 unfoldable pub withMore : Link → ℕ → Link
 withMore l c =

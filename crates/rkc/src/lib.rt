@@ -12,6 +12,7 @@ ghost use mathlib.Core.Path.{_≡_};
 ghost use Rattle.phases.specs.Phases.{rest};
 ghost use Rattle.rkc.specs.State.{inPhase};
 ghost use Rattle.rkc.specs.Promise.{Leads, Idles};
+use block::MOST_KEPT;
 use phases::REST;
 use phases::WAITING;
 use replies::handed_back;
@@ -26,7 +27,7 @@ pub struct Link {
     pub count: u8,
     pub bcc: u8,
     pub mark: bool,
-    pub kept: [u8; 8],
+    pub kept: [u8; MOST_KEPT],
     pub time: u32,
 }
 

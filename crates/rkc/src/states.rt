@@ -4,6 +4,7 @@ ghost use mathlib.Core.Bool.{_||_};
 ghost use Rattle.line.specs.Line.{isLineError};
 ghost use Rattle.rkc.specs.State.{inPhase, holdingOne, holdingTwo, waitingOn, block, asBlock, used, oneMore, withMore, withEnd};
 use crate::Link;
+use block::MOST_KEPT;
 use line::ETX;
 use line::TOP_BIT;
 use phases::BCC_DUE;
@@ -12,8 +13,8 @@ use phases::TEXT;
 use phases::TWO_CHARACTERS;
 use phases::WAITING;
 
-// Up to here a block's characters are counted.
-pub(crate) const MOST_COUNTED: u8 = 9;
+// Up to here a block's characters are counted: one more than are kept tells that it is too long.
+pub(crate) const MOST_COUNTED: u8 = MOST_KEPT as u8 + 1;
 
 // A phase that uses nothing else.
 pub(crate) fn in_phase(phase: u8) -> Link
@@ -25,7 +26,7 @@ pub(crate) fn in_phase(phase: u8) -> Link
         count: 0,
         bcc: 0,
         mark: false,
-        kept: [0; 8],
+        kept: [0; MOST_KEPT],
         time: 0,
     }
 }
@@ -70,13 +71,13 @@ pub(crate) fn waiting_on(item: u8, time: u32) -> Link
         count: 0,
         bcc: 0,
         mark: false,
-        kept: [0; 8],
+        kept: [0; MOST_KEPT],
         time,
     }
 }
 
 // A block with its text so far, open or with its BCC due.
-fn block(phase: u8, count: u8, bcc: u8, mark: bool, kept: [u8; 8]) -> Link
+fn block(phase: u8, count: u8, bcc: u8, mark: bool, kept: [u8; MOST_KEPT]) -> Link
     ensures { λ r. ⌜ r ≡ block phase count bcc mark kept ⌝ }
 {
     Link {
@@ -90,7 +91,7 @@ fn block(phase: u8, count: u8, bcc: u8, mark: bool, kept: [u8; 8]) -> Link
     }
 }
 
-// The count with one more, up to 9.
+// The count with one more, as far as it goes.
 fn one_more(count: u8) -> u8
     ensures { λ r. ⌜ r ≡ oneMore count ⌝ }
 {
