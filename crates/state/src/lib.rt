@@ -6,6 +6,7 @@ ghost use lib.ListN.{length};
 ghost use lib.Seq.{sets, slice};
 ghost use Rattle.kept.specs.Bytes.{fromLow, lowFirst};
 ghost use Rattle.state.specs.State.{stateBytes, isMarked, markByte, unpacked, packed, packedInto};
+use block::MOST_KEPT;
 use rkc::Link;
 
 // How many bytes hold the link state.
@@ -41,7 +42,7 @@ fn time_of(state: &[u8]) -> u32
     kept::from_low(state[8], state[9], state[10], state[11])
 }
 
-fn kept_of(state: &[u8]) -> [u8; 8]
+fn kept_of(state: &[u8]) -> [u8; MOST_KEPT]
     requires { ⌜ length (now state) ≡ stateBytes ⌝ }
     ensures { λ r. ⌜ r ≡ slice 12 20 (now (state .entry)) ⌝ }
 {
@@ -68,7 +69,7 @@ pub fn unpack(state: &[u8]) -> Link
             count: 0,
             bcc: 0,
             mark: false,
-            kept: [0; 8],
+            kept: [0; MOST_KEPT],
             time: 0,
         };
     }
@@ -112,7 +113,7 @@ fn put_time(state: &mut [u8], time: u32)
 }
 
 // The kept characters stand at 12 to 19.
-fn put_kept(state: &mut [u8], kept: [u8; 8])
+fn put_kept(state: &mut [u8], kept: [u8; MOST_KEPT])
     requires { ⌜ length (now state) ≡ stateBytes ⌝ }
     ensures { λ r. ⌜ now (state .exit) ≡ sets (now (state .entry)) 12 kept ⌝ }
 {

@@ -22,7 +22,9 @@ count-and-bcc : (c : tie.Joined1) →
     let l = c .before .before .before .before .args .self in
     c .if1 .if2 ≡ (leb (l .count) mostCounted && isCharacter (l .bcc))
 count-and-bcc c =
-    ⊎-elim (λ w. w .2 ∙ simp (le-leb _ _ (w .0 .taken))) (λ w. w .1 ∙ simp (lt-leb _ _ (w .0 .left))) (c .if1 .came)
+    let count = c .before .before .before .before .args .self .count in
+    ⊎-elim (λ w. w .2 ∙ simp (le-leb count mostCounted (w .0 .taken))) (λ w. w .1 ∙ simp (lt-leb count mostCounted (w .0 .left)))
+    (c .if1 .came)
 
 returns : tie.Need-returns
 returns c =
