@@ -25,16 +25,15 @@ pub const READ_ONLY: u8 = 17;
 pub const OUT_OF_RANGE: u8 = 18;
 
 // How many characters an identifier has, and how many of a block are kept: the identifier and a number.
-const IDENTIFIER_LENGTH: usize = 2;
+const IDENTIFIER_LENGTH: u8 = 2;
 
-pub const MOST_KEPT: usize = IDENTIFIER_LENGTH + text::WIDTH;
+pub const MOST_KEPT: usize = IDENTIFIER_LENGTH as usize + text::WIDTH;
 
 // The verdict on a block that was marked or not, with the BCC of its text and ETX, the count of its characters, those that
 // were kept, and the byte in the BCC's place as it was heard.
 pub fn judge(mark: bool, bcc: u8, count: u8, kept: [u8; MOST_KEPT], c: u8) -> Verdict
     ensures { λ r. ⌜ Judges mark bcc count kept c r ⌝ }
 {
-    let count = count as usize;
     if mark || line::TOP_BIT <= c {
         return Verdict::Refuse(LINE_ERROR);
     }
@@ -47,10 +46,11 @@ pub fn judge(mark: bool, bcc: u8, count: u8, kept: [u8; MOST_KEPT], c: u8) -> Ve
     let Found::At(i) = items::find(kept[0], kept[1]) else {
         return Verdict::Refuse(UNKNOWN_IDENTIFIER);
     };
-    if MOST_KEPT < count {
+    let end = count as usize;
+    if MOST_KEPT < end {
         return Verdict::Refuse(OVER_SIX_CHARACTERS);
     }
-    let read = text::read(items::decimals(i), &kept[IDENTIFIER_LENGTH..count]);
+    let read = text::read(items::decimals(i), &kept[IDENTIFIER_LENGTH as usize..end]);
     let Reading::Value(v) = read else {
         return Verdict::Refuse(read.number());
     };

@@ -85,6 +85,12 @@ returns-5 c = too-long (named (c .before .before)) (omega arith)
 decimals-requires : tie.Need-decimals-requires
 decimals-requires c κs = search needs
 
+cast-read : tie.Need-cast-read
+cast-read c = search needs
+
+sub-read : tie.Need-sub-read
+sub-read c = search needs
+
 part-read-start : tie.Need-part-read-start
 part-read-start c = search needs
 
@@ -184,6 +190,8 @@ judge-spec =
     returns-4
     returns-5
     decimals-requires
+    cast-read
+    sub-read
     part-read-start
     part-read-end
     read-requires
