@@ -76,7 +76,8 @@ mostCounted = mostKept + 1
 abbrev pub blockInLimits : Link → Bool
 blockInLimits l = leb (l .count) mostCounted && (isCharacter (l .bcc) && allCharacters (upTo (l .count) (l .kept)))
 
--- a known phase, a waiting item of the list, a count as far as it goes, no kept character or BCC of 80H up: as far as the phase uses them
+-- a known phase, a waiting item of the list, a count up to the most, no kept character or BCC of 80H up: as far as the phase
+-- uses them
 unfoldable pub inLimits : Link → Bool
 inLimits l =
     cond (eqb (l .phase) oneCharacter) (isCharacter (getD (l .kept) 0 0))
@@ -87,12 +88,12 @@ inLimits l =
 
 -- ---- a block's text
 
--- one more is counted, as far as the count goes
+-- one more is counted, up to the most
 abbrev pub oneMore : ℕ → ℕ
 oneMore count = cond (ltb count mostCounted) (count + 1) mostCounted
 
--- one more character of the text, as it was heard: counted, kept in its place if there is one left, taken into the
--- BCC as its low seven bits; a line error marks the block
+-- one more character of the text, as it was heard: counted, kept in its place if there is one left, taken into the BCC
+-- as its low seven bits; a line error marks the block
 unfoldable pub withMore : Link → ℕ → Link
 withMore l c =
     block text (oneMore (l .count)) (bitXor (l .bcc) (lowSeven c)) (l .mark || isLineError c) (set (l .kept) (l .count) (lowSeven c))

@@ -91,7 +91,7 @@ fn block(phase: u8, count: u8, bcc: u8, mark: bool, kept: [u8; MOST_KEPT]) -> Li
     }
 }
 
-// The count with one more, as far as it goes.
+// The count with one more, up to the most that are counted.
 fn one_more(count: u8) -> u8
     ensures { λ r. ⌜ r ≡ oneMore count ⌝ }
 {
