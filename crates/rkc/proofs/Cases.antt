@@ -17,6 +17,7 @@ use Rattle.line.specs.Line.{ACK, NAK, sent, heard}
 use Rattle.phases.specs.Phases as phases
 use Rattle.phases.specs.Phases.{waiting}
 use Rattle.phases.specs.declared.Act.{Act}
+use Rattle.text.specs.Numbers.{width}
 use Rattle.text.specs.Writing.{written}
 use Rattle.text.specs.declared.Written.{Written}
 use Rattle.block.specs.Block.{Judges}
@@ -45,7 +46,7 @@ done-by l t structure time e = ap (performed l t structure time) e
 
 -- ---- an item's number text fits, or not
 
-module _ (structure time : ℕ) (t : List ℤ) (i : ℕ) (w : Written) (e : w ≡ written 6 (itemAt i .decimals) (answered t i)) where
+module _ (structure time : ℕ) (t : List ℤ) (i : ℕ) (w : Written) (e : w ≡ written width (itemAt i .decimals) (answered t i)) where
   pub item-fits : w .number ≡ none
       → itemSent structure time t i
       ≡ record { link = waitingOn (i + 1) time; number = none; reply = map (sent structure) (dataReply i (w .chars)) }

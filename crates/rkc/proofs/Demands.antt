@@ -21,6 +21,7 @@ use Rattle.table.specs.Table.{goodTable, entry, stored}
 use Rattle.table.proofs.Laws.{good-stored, stored-in-range, stored-read-only, answered-AA, answered-AB}
 use Rattle.line.specs.Line.{within, sent, heard, lastStructure}
 use Rattle.line.proofs.Parity.{sent-keeps}
+use Rattle.text.specs.Numbers.{width}
 use Rattle.text.specs.Writing.{fits, text, writeNumber, accepted, written}
 use Rattle.phases.specs.Phases.{waiting}
 use Rattle.phases.specs.Limits.{Limited}
@@ -203,7 +204,7 @@ module _ (call : IdleCall) where
 
 -- the number text of an alarm's state
 alarm-text : (t : List ℤ) (limit : ℕ) (b : Bool) → leZ (entry t limit) (entry t table.M1) ≡ b
-    → written 6 0 (table.alarm t limit) ≡ accepted (stateText b)
+    → written width 0 (table.alarm t limit) ≡ accepted (stateText b)
 unfolding table.alarm written writeNumber fits text
 alarm-text t limit true e = rw e
 alarm-text t limit false e = rw e

@@ -16,6 +16,7 @@ use Rattle.table.specs.Table.{answered}
 use Rattle.items.specs.declared.Found.{Found}
 use Rattle.items.specs.declared.Found.the-variants.{At, Nothing}
 use Rattle.line.specs.Line.{ETX, EOT, ACK, NAK, sent, bcc}
+use Rattle.text.specs.Numbers.{width}
 use Rattle.text.specs.Writing.{written}
 use Rattle.text.proofs.Texts.{written-length}
 use Rattle.phases.specs.Phases.{waiting}
@@ -29,12 +30,12 @@ use Rattle.rkc.specs.Outcome.{ByteCall, byteFault, received, IdleCall, i
 -- ---- every reply
 
 module _ (P : List ℕ → Type 0) (structure : ℕ) (nothing : P []) (one : (c : ℕ) → P (sent structure c ∷ []))
-    (item : (i : ℕ) (six : List ℕ) → length six ≡ 6 → P (map (sent structure) (dataReply i six))) where
+    (item : (i : ℕ) (six : List ℕ) → length six ≡ width → P (map (sent structure) (dataReply i six))) where
   item-reply : (time : ℕ) (t : List ℤ) (i : ℕ) → P (itemSent structure time t i .reply)
   unfolding itemSent
   item-reply time t i =
-      chosen (λ (s : Step). P (s .reply)) (eqb (written 6 (itemAt i .decimals) (answered t i) .number) none)
-      (λ _. item i _ (written-length 6 (itemAt i .decimals) (answered t i) (omega arith)))
+      chosen (λ (s : Step). P (s .reply)) (eqb (written width (itemAt i .decimals) (answered t i) .number) none)
+      (λ _. item i _ (written-length width (itemAt i .decimals) (answered t i) (omega arith)))
       (λ _. one EOT)
 
   polled-reply : (time : ℕ) (t : List ℤ) (f : Found) → P (polled structure time t f .reply)
@@ -59,7 +60,7 @@ module _ (P : List ℕ → Type 0) (structure : ℕ) (nothing : P []) (one : (c 
 
 module _ (P : List ℕ → Type 0) (nothing : P []) where
   pub received-reply : (call : ByteCall) → ((c : ℕ) → P (sent (call .structure) c ∷ []))
-      → ((i : ℕ) (six : List ℕ) → length six ≡ 6 → P (map (sent (call .structure)) (dataReply i six)))
+      → ((i : ℕ) (six : List ℕ) → length six ≡ width → P (map (sent (call .structure)) (dataReply i six)))
       → P (received call .step .reply)
   unfolding received
   received-reply call one item =
@@ -79,7 +80,7 @@ module _ (P : List ℕ → Type 0) (nothing : P []) where
 -- ---- how long
 
 -- STX, identifier, six characters, ETX and BCC
-data-reply-long : (structure i : ℕ) (six : List ℕ) → length six ≡ 6 → length (map (sent structure) (dataReply i six)) ≤ 11
+data-reply-long : (structure i : ℕ) (six : List ℕ) → length six ≡ width → length (map (sent structure) (dataReply i six)) ≤ 11
 unfolding dataReply
 data-reply-long structure i six e =
     let m = length-append six (ETX ∷ []) in

@@ -13,6 +13,7 @@ use Rattle.items.specs.ItemList.{Item, items, itemAt, inRange}
 use Rattle.items.proofs.Lists.{passes, passes-at}
 use Rattle.table.specs.Table.{goodTable, entry, M1, AA, AB, A1, A2, alarm, answered}
 use Rattle.table.proofs.Laws.{good-entry}
+use Rattle.text.specs.Numbers.{width}
 use Rattle.text.specs.Writing.{fits}
 use Rattle.text.proofs.Limits.{between-fits}
 use Rattle.text.proofs.Texts.{fitting}
@@ -20,28 +21,28 @@ use Rattle.block.proofs.Laws.{few-decimals}
 use Rattle.rkc.specs.Outcome.{itemSent}
 
 module _ (i : ℕ) (h : i < items) where
-  abbrev FitsSix : ℤ → Type 0
-  FitsSix v = fits 6 (itemAt i .decimals) v ≡ true
+  abbrev Fits : ℤ → Type 0
+  Fits v = fits width (itemAt i .decimals) v ≡ true
 
   -- a number of each line of the list, by a test that the whole list passes
-  line-fits : (f : Item → ℤ) → passes (λ (k : ℕ). fits 6 (itemAt k .decimals) (f (itemAt k))) items ≡ true → FitsSix (f (itemAt i))
-  line-fits f e = passes-at (λ (k : ℕ). fits 6 (itemAt k .decimals) (f (itemAt k))) items i e h
+  line-fits : (f : Item → ℤ) → passes (λ (k : ℕ). fits width (itemAt k .decimals) (f (itemAt k))) items ≡ true → Fits (f (itemAt i))
+  line-fits f e = passes-at (λ (k : ℕ). fits width (itemAt k .decimals) (f (itemAt k))) items i e h
 
-  state-fits : (t : List ℤ) (limit : ℕ) → FitsSix (alarm t limit)
+  state-fits : (t : List ℤ) (limit : ℕ) → Fits (alarm t limit)
   unfolding alarm fits
-  state-fits t limit = chosen FitsSix (leZ (entry t limit) (entry t M1)) (λ _. line-fits (λ x. pos 1) refl) (λ _. line-fits (λ x. pos 0) refl)
+  state-fits t limit = chosen Fits (leZ (entry t limit) (entry t M1)) (λ _. line-fits (λ x. pos 1) refl) (λ _. line-fits (λ x. pos 0) refl)
 
-  entry-fits : (t : List ℤ) → goodTable t ≡ true → FitsSix (entry t i)
+  entry-fits : (t : List ℤ) → goodTable t ≡ true → Fits (entry t i)
   unfolding inRange fits
   entry-fits t g =
       let r = both (leZ (itemAt i .low) (entry t i)) (leZ (entry t i) (itemAt i .high)) (good-entry t i g h) in
-      between-fits 6 (itemAt i .decimals) (itemAt i .low) (itemAt i .high) (entry t i) (r .0) (r .1) (line-fits (λ x. x .low) refl) (line-fits (λ x. x .high) refl)
+      between-fits width (itemAt i .decimals) (itemAt i .low) (itemAt i .high) (entry t i) (r .0) (r .1) (line-fits (λ x. x .low) refl) (line-fits (λ x. x .high) refl)
 
-  answered-fits : (t : List ℤ) → goodTable t ≡ true → FitsSix (answered t i)
+  answered-fits : (t : List ℤ) → goodTable t ≡ true → Fits (answered t i)
   unfolding answered
   answered-fits t g =
-      chosen FitsSix (eqb i AA) (λ _. state-fits t A1) (λ _. chosen FitsSix (eqb i AB) (λ _. state-fits t A2) (λ _. entry-fits t g))
+      chosen Fits (eqb i AA) (λ _. state-fits t A1) (λ _. chosen Fits (eqb i AB) (λ _. state-fits t A2) (λ _. entry-fits t g))
 
   pub always-sent : (structure time : ℕ) (t : List ℤ) → goodTable t ≡ true → itemSent structure time t i .number ≡ none
   unfolding itemSent
-  always-sent structure time t g = rw (fitting 6 (itemAt i .decimals) (answered t i) (few-decimals i) (answered-fits t g))
+  always-sent structure time t g = rw (fitting width (itemAt i .decimals) (answered t i) (few-decimals i) (answered-fits t g))

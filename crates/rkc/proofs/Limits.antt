@@ -19,6 +19,7 @@ use Rattle.table.specs.Table as table
 use Rattle.items.proofs.Lookup.{found-place}
 use Rattle.line.specs.Line.{ETX, topBit, lowSeven, within}
 use Rattle.line.proofs.Laws.{within-in, within-true, low-seven-small, taken-small}
+use Rattle.text.specs.Numbers.{width}
 use Rattle.text.specs.Writing.{written}
 use Rattle.phases.specs.Phases.{oneCharacter, twoCharacters, waiting, text, bccDue, answered}
 use Rattle.phases.specs.Limits.{Listed, Limited}
@@ -135,7 +136,7 @@ end-limits l s =
 item-limits : (structure time : ℕ) (t : List ℤ) (i : ℕ) → i < items → inLimits (itemSent structure time t i .link) ≡ true
 unfolding itemSent inLimits
 item-limits structure time t i h =
-    chosen (λ (s : Step). inLimits (s .link) ≡ true) (eqb (written 6 (itemAt i .decimals) (table.answered t i) .number) none)
+    chosen (λ (s : Step). inLimits (s .link) ≡ true) (eqb (written width (itemAt i .decimals) (table.answered t i) .number) none)
     (λ _. within-in 1 items (i + 1) (omega arith) (omega arith))
     (λ _. refl)
 

@@ -1,7 +1,5 @@
 -- `items::find_register` meets its contract: the place tells what was found. Assumes nothing.
 use borrow.Author.Needs.{needs}
-use mathlib.Core.Path.{ap, _∙_}
-use Rattle.items.specs.ItemList.{items}
 use Rattle.items.proofs.Lookup.{item-has, none-has}
 use Rattle.items.proofs.find_register.Statement.{statement}
 use Rattle.items.proofs.find_register.Tie as tie

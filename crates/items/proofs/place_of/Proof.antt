@@ -1,6 +1,5 @@
 -- `items::place_of` meets its contract: the table of the map holds each register's place, and past the map that of no item.
 -- Assumes nothing.
-use borrow.Author.Needs.{needs}
 use mathlib.Core.Path.{_≡_}
 use mathlib.Core.Logic.{⊎-elim}
 use Prim.Native.Nat.{suc, _<_}

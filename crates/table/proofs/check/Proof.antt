@@ -1,5 +1,4 @@
 -- `table::check` meets its contract: the length, and then what is found of all entries. Assumes nothing.
-use borrow.Author.Needs.{needs}
 use borrow.Author.Tests.{eq-eqb, ne-eqb}
 use Rattle.table.specs.Table.{tableFault}
 use Rattle.table.proofs.check.Statement.{statement}

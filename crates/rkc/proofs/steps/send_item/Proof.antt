@@ -5,6 +5,7 @@ use lib.ListN.{length-map}
 use Rattle.sign.proofs.Laws.{same}
 use Rattle.items.specs.ItemList.{itemAt}
 use Rattle.table.specs.Table.{answered}
+use Rattle.text.specs.Numbers.{width}
 use Rattle.text.specs.Writing.{written}
 use Rattle.rkc.proofs.Cases.{steps-by, item-fits, item-too-long}
 use Rattle.rkc.proofs.steps.send_item.Statement.{statement}
@@ -46,7 +47,7 @@ same-length c = search needs
 -- the number text is that of the answer at the item's decimals
 text-is : (c : tie.After-write) →
     let s = c .before .before .before .before in
-    c .write .result ≡ written 6 (itemAt (s .args .i) .decimals) (answered (s .args .table .now) (s .args .i))
+    c .write .result ≡ written width (itemAt (s .args .i) .decimals) (answered (s .args .table .now) (s .args .i))
 text-is c =
     let value = c .before .before .answer in
     c .write .ensures ∙ rw (c .before .decimals .ensures, same (value .result) (value .ok) ∙ value .ensures)
