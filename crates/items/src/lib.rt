@@ -61,7 +61,7 @@ pub const HIGH: [i32; LINES] = [
 
 pub const START: [i32; LINES] = [0, 0, 0, 0, 0, 0, 500, 500, 0, 1000, 0, 0, 0];
 
-// Past the list: what a register has that no item has.
+// The place of a register that no item has: past the list.
 const NO_ITEM: u8 = ITEMS as u8;
 
 // The place of the item that has a register, for each register of the map, and last for those past it.
