@@ -1,2 +1,4 @@
 pub mod Laws
+pub mod Acts
+pub mod Uses
 pub mod Single

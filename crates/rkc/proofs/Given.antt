@@ -23,6 +23,7 @@ use Rattle.text.specs.Reading.{readNumber, readValue}
 use Rattle.phases.specs.Decision.{decided}
 use Rattle.phases.specs.Limits.{Limited}
 use Rattle.phases.specs.declared.Act.{Act}
+use Rattle.phases.proofs.Acts.{every-act}
 use Rattle.block.specs.Block.{lineError, outOfRange, blockItem, blockValue, blockNumber}
 use Rattle.block.proofs.Laws.{Refusing, block-refuses}
 use Rattle.rkc.specs.declared.Link.{Link}
@@ -31,7 +32,6 @@ use Rattle.rkc.specs.Outcome.{Outcome, polled, refusing, judged, perform
 use Rattle.rkc.specs.Outcome.{stepFault, goodSettings, ByteCall, byteFault, received, IdleCall, idleFault, idled}
 use Rattle.rkc.specs.Numbers.{oneOf, byteFaults, byteNumbers, byteExamples, idleFaults, idleExamples}
 use Rattle.rkc.specs.Demands.{OfNumbers}
-use Rattle.rkc.proofs.Acts.{every-act}
 use Rattle.rkc.proofs.Fits.{always-sent}
 
 -- a test that each of some numbers passes, passes for one of them

@@ -1,5 +1,4 @@
 pub mod Lists
-pub mod Acts
 pub mod Used
 pub mod Cases
 pub mod Limits

@@ -21,11 +21,12 @@ use Rattle.text.specs.Reading.{readValue}
 use Rattle.phases.specs.Phases.{oneCharacter, twoCharacters, waiting, text, bccDue}
 use Rattle.phases.specs.Decision.{decided}
 use Rattle.phases.specs.declared.Act.{Act}
+use Rattle.phases.proofs.Acts.{outside-act}
+use Rattle.phases.proofs.Uses.{decided-one, decided-two, decided-waiting, decided-other}
 use Rattle.block.specs.Block.{underTwo, identifierLength, blockItem, blockValue, blockNumbers, blockNumber}
 use Rattle.rkc.specs.declared.Link.{Link}
 use Rattle.rkc.specs.State.{inPhase, holdingOne, holdingTwo, waitingOn, asBlock, inBlock, used}
 use Rattle.rkc.specs.Outcome.{refusing, judged, performed, asked}
-use Rattle.rkc.proofs.Acts.{outside-act}
 
 -- ---- the phase, and the time that waiting uses
 
@@ -93,26 +94,6 @@ judged-up-to structure t l c = by (leb identifierLength (l .count)) refl
         rw (number, ne-eqb (refusing l c) none met)
 
 -- ---- what a character asks for
-
--- one character has its own, two have both, waiting has the item
-module _ (last a b i b′ i′ address c : ℕ) where
-  decided-one : decided last oneCharacter a b i address c ≡ decided last oneCharacter a b′ i′ address c
-  unfolding decided
-  decided-one = refl
-
-  decided-two : decided last twoCharacters a b i address c ≡ decided last twoCharacters a b i′ address c
-  unfolding decided
-  decided-two = refl
-
-  decided-waiting : decided last waiting a b i address c ≡ decided last waiting b′ i′ i address c
-  unfolding decided
-  decided-waiting = refl
-
--- other phases have none of them
-decided-other : (last phase a b i a′ b′ i′ address c : ℕ) → eqb phase oneCharacter ≡ false → eqb phase twoCharacters ≡ false → eqb phase waiting ≡ false
-    → decided last phase a b i address c ≡ decided last phase a′ b′ i′ address c
-unfolding decided
-decided-other last phase a b i a′ b′ i′ address c p q r = simp (p, q, r)
 
 pub asked-used : (l : Link) (address c : ℕ) → asked (used l) address c ≡ asked l address c
 unfolding used
