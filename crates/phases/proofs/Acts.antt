@@ -32,7 +32,8 @@ module _ (P : Act → Type 0) (go : (phase : ℕ) → P (Go phase)) (first : (a 
         (λ _. chosen P (eqb phase oneCharacter) (λ _. chosen P (printable c) (λ _. both _ _) (λ _. astray-act c))
         (λ _. chosen P (eqb phase twoCharacters) (λ _. chosen P (eqb c ENQ) (λ _. poll _ _) (λ _. astray-act c))
         (λ _. chosen P (eqb phase waiting)
-        (λ _. chosen P (eqb c ACK) (λ _. chosen P (ltb item last) (λ _. send _) (λ _. end)) (λ _. chosen P (eqb c NAK) (λ _. send _) (λ _. unawaited)))
+        (λ _. chosen P (eqb c ACK) (λ _. chosen P (ltb item last) (λ _. send _) (λ _. end))
+        (λ _. chosen P (eqb c NAK) (λ _. send _) (λ _. chosen P (printable c) (λ _. first _) (λ _. unawaited))))
         (λ _. chosen P (eqb phase answered) (λ _. chosen P (eqb c STX) (λ _. go _) (λ _. go _)) (λ _. go _)))))))))
 
     -- and in one

@@ -40,7 +40,8 @@ module _ (last : ℕ) where
   waiting-limited item c h =
       chosen (Limited last) (eqb c ACK)
       (λ _. chosen (Limited last) (ltb item last) (λ e. let below = ltb-true item last e in omega arith) (λ _. tt))
-      (λ _. chosen (Limited last) (eqb c NAK) (λ _. h) (λ _. tt))
+      (λ _. chosen (Limited last) (eqb c NAK) (λ _. h)
+      (λ _. chosen (Limited last) (printable c) (printable-small c) (λ _. tt)))
 
   text-limited : (c : ℕ) → Limited last (atText c)
   text-limited c = chosen (Limited last) (eqb c ETX) (λ _. tt) (λ _. tt)

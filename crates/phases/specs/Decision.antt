@@ -43,11 +43,13 @@ atOneCharacter first c = cond (printable c) (Both first c) (astray c)
 abbrev pub atTwoCharacters : ℕ → ℕ → ℕ → Act
 atTwoCharacters first second c = cond (eqb c ENQ) (Poll first second) (astray c)
 
--- ACK sends the next item of the list, after the last one EOT and rest; NAK sends the same item; any other byte: EOT, rest
+-- ACK sends the next item of the list, after the last one EOT and rest; NAK sends the same item; a printable character is the
+-- first of a new poll's identifier, since the address stays good; any other byte: EOT, rest
 abbrev pub atWaiting : ℕ → ℕ → ℕ → Act
 atWaiting last item c =
     cond (eqb c ACK) (cond (ltb item last) (Send (item + 1)) (Quit listEnded))
-    (cond (eqb c NAK) (Send item) (Quit notAwaited))
+    (cond (eqb c NAK) (Send item)
+    (cond (printable c) (First c) (Quit notAwaited)))
 
 -- all bytes but ETX (and EOT) are text
 abbrev pub atText : ℕ → Act

@@ -45,7 +45,7 @@ notBelonging = 41
 abbrev pub unknownPolled : ℕ
 unknownPolled = 42
 
--- a byte that is neither ACK, NAK nor EOT while waiting
+-- a byte while waiting that is neither ACK, NAK, EOT nor printable
 abbrev pub notAwaited : ℕ
 notAwaited = 43
 

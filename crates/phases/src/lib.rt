@@ -2,7 +2,10 @@
 // being line errors, so that each phase's match has ranges for digits, printable and control characters and for line errors too.
 // Nothing here touches a state, a table or a buffer: the caller does what an act says.
 ghost use mathlib.Core.Path.{_≡_};
+ghost use mathlib.Core.Bool.{cond};
+ghost use Rattle.line.specs.Line.{printable};
 ghost use Rattle.phases.specs.Decision.{atDigit, atAddressed, atOneCharacter, atTwoCharacters, atWaiting, atText, atAnswered, decided};
+ghost use Rattle.phases.specs.declared.Act.the-variants.{First};
 use line::ACK;
 use line::ENQ;
 use line::EOT;
@@ -40,7 +43,7 @@ pub const NOT_BELONGING: u8 = 41;
 // the identifier of a poll is unknown
 pub const UNKNOWN_POLLED: u8 = 42;
 
-// a byte that is neither ACK, NAK nor EOT while waiting
+// a byte while waiting that is neither ACK, NAK, EOT nor printable
 pub const NOT_AWAITED: u8 = 43;
 
 // the list has no next item: an end and no fault
@@ -82,14 +85,23 @@ fn at_digit(digit: u8, next: u8, c: u8) -> Act
     }
 }
 
+// A printable character is the first of an identifier; any other byte asks for what is given here.
+fn first_or(c: u8, other: Act) -> Act
+    ensures { λ r. ⌜ r ≡ cond (printable c) (First c) other ⌝ }
+{
+    match c {
+        0x20..=0x7E => Act::First(c),
+        _ => other,
+    }
+}
+
 // After the address a block opens or an identifier begins.
 fn at_addressed(c: u8) -> Act
     ensures { λ r. ⌜ r ≡ atAddressed c ⌝ }
 {
     match c {
         STX => Act::Go(TEXT),
-        0x20..=0x7E => Act::First(c),
-        _ => Act::Go(REST),
+        _ => first_or(c, Act::Go(REST)),
     }
 }
 
@@ -116,7 +128,8 @@ fn at_two_characters(first: u8, second: u8, c: u8) -> Act
     }
 }
 
-// The host goes on through the list by ACK and asks again by NAK. Past the last item there is no next one, whatever the item.
+// The host goes on through the list by ACK, asks again by NAK, or polls another item of the same address. Past the last item there
+// is no next one, whatever the item.
 fn at_waiting(last: u8, item: u8, c: u8) -> Act
     ensures { λ r. ⌜ r ≡ atWaiting last item c ⌝ }
 {
@@ -127,7 +140,7 @@ fn at_waiting(last: u8, item: u8, c: u8) -> Act
             Act::Quit(LIST_ENDED)
         },
         NAK => Act::Send(item),
-        _ => Act::Quit(NOT_AWAITED),
+        _ => first_or(c, Act::Quit(NOT_AWAITED)),
     }
 }
 

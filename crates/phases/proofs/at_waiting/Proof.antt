@@ -1,4 +1,4 @@
--- `phases::at_waiting` meets its contract: ACK before and after the last item, NAK, and neither.
+-- `phases::at_waiting` meets its contract: ACK before and after the last item, NAK, and any other byte.
 -- Assumes nothing.
 use native.Mathlib.Omega.{arith}
 use borrow.Author.Needs.{needs}
@@ -8,6 +8,9 @@ use Rattle.phases.proofs.at_waiting.Tie as tie
 
 add-t7 : tie.Need-add-t7
 add-t7 c = search needs
+
+first-or-requires : tie.Need-first-or-requires
+first-or-requires c κs = search needs
 
 returns : tie.Need-returns
 returns c =
@@ -23,7 +26,9 @@ returns-3 : tie.Need-returns-3
 returns-3 c = rw (c .match .keys2)
 
 returns-4 : tie.Need-returns-4
-returns-4 c = simp (ne-eqb _ _ (c .match .rest .0 .1), ne-eqb _ _ (c .match .rest .1))
+returns-4 c =
+    let other = c .before .match .rest in
+    simp (ne-eqb _ _ (other .0 .1), ne-eqb _ _ (other .1)) (c .first-or .ensures)
 
 pub at-waiting-spec : {M : Type 1} → statement M
-at-waiting-spec = tie.close (tie.spec add-t7 returns returns-2 returns-3 returns-4)
+at-waiting-spec = tie.close (tie.spec add-t7 first-or-requires returns returns-2 returns-3 returns-4)
