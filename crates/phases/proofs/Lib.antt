@@ -1,4 +1,5 @@
 pub mod Laws
 pub mod Acts
 pub mod Uses
+pub mod Identifier
 pub mod Single

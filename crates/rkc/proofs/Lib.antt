@@ -6,4 +6,5 @@ pub mod EachReply
 pub mod Fits
 pub mod Given
 pub mod Demands
+pub mod PollingOn
 pub mod Single

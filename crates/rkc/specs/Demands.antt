@@ -10,10 +10,11 @@ use lib.Signed.{leZ}
 use Rattle.numbers.specs.Numbers.{none}
 use Rattle.items.specs.ItemList.{itemAt, inRange}
 use Rattle.table.specs.Table.{goodTable, entry, M1, AA, AB, A1, A2}
-use Rattle.line.specs.Line.{within, keeps, sent}
+use Rattle.line.specs.Line.{within, printable, keeps, sent, heard}
+use Rattle.phases.specs.Phases.{addressed, waiting}
 use Rattle.rkc.specs.declared.Stepped.{Stepped}
-use Rattle.rkc.specs.State.{waitingOn, inLimits}
-use Rattle.rkc.specs.Outcome.{Step, noRoom, dataReply, itemSent, ByteCall, byteFault, received, IdleCall, idleFault, idled}
+use Rattle.rkc.specs.State.{inPhase, waitingOn, inLimits}
+use Rattle.rkc.specs.Outcome.{Step, silent, noRoom, dataReply, itemSent, ByteCall, byteFault, received, IdleCall, idleFault, idled}
 use Rattle.rkc.specs.Numbers.{oneOf, byteFaults, byteNumbers, byteExamples, idleFaults, idleNumbers, idleExamples}
 use Rattle.rkc.specs.Promise.{Leads, Idles}
 
@@ -86,6 +87,42 @@ pub record OfIdle (call : IdleCall) : Type 0 where
 pub record OfNumbers : Type 0 where
   pub byBytes : map (λ (call : ByteCall). received call .step .number) byteExamples ≡ byteFaults ++ byteNumbers
   pub byIdles : map (λ (call : IdleCall). idled call .number) idleExamples ≡ idleFaults ++ idleNumbers
+
+-- ---- polling on without the address
+
+-- while waiting, without a fault, a character from 20H to 7EH comes
+pub record PollsOn (call : ByteCall) : Type 0 where
+  pub fine : byteFault call ≡ none
+  pub waits : call .link .phase ≡ waiting
+  pub prints : printable (heard (call .structure) (call .byte)) ≡ true
+
+-- the same call right after the address
+abbrev pub afterAddress : ByteCall → ByteCall
+afterAddress call =
+    record {
+      link = inPhase addressed;
+      table = call .table;
+      buffer = call .buffer;
+      address = call .address;
+      structure = call .structure;
+      time = call .time;
+      byte = call .byte;
+    }
+
+-- an idle call on what a byte call left
+abbrev pub idleAfter : ByteCall → ℕ → IdleCall
+idleAfter call time =
+    record {
+      link = received call .step .link;
+      buffer = sets (call .buffer) 0 (received call .step .reply);
+      structure = call .structure;
+      time = time;
+    }
+
+-- then all is as right after the address, and no silence ends the poll that it begins
+pub record OfPollingOn (call : ByteCall) : Type 0 where
+  pub asAddressed : received call ≡ received (afterAddress call)
+  pub noLimit : (time : ℕ) → idled (idleAfter call time) ≡ silent (received call .step .link)
 
 -- ---- the alarm states
 
