@@ -1,4 +1,4 @@
-// Runs the worked examples of document 01, of the manuals 000, 002, 003 and 004 and of the Modbus documents through the library and
+// Runs the worked examples of documents 01 and 02, of the manuals 000, 002, 003 and 004 and of the Modbus documents through the library and
 // writes a line for each: the example, and what comes of it. An example that more than one document prints stands where it comes first.
 mod modbus_rtu;
 mod rkc_line;
@@ -15,7 +15,7 @@ use rkc_line::PB;
 use rkc_line::PR;
 use rkc_line::bcc;
 use rkc_line::bench;
-use rkc_line::poll_m1;
+use rkc_line::bench_with_m1;
 use rkc_line::read;
 use rkc_line::sent;
 use rkc_line::write;
@@ -103,10 +103,16 @@ fn documents_002_and_003() {
     bcc(b"M1023.000\x03");
 }
 
-// Document 004: polling, 3.1.1, and Modbus, 4.6 and 5.3.
-fn document_004() {
+// Document 004: polling, 3.1.1, the second time without EOT and address; and so the host program of document 02, 1/14.
+fn polling_of_document_004() {
     bcc(b"M10100.0\x03");
-    poll_m1(1000);
+    bench_with_m1(1000, b"\x0401M1\x05");
+    bench_with_m1(1000, b"\x0401M1\x05M1\x05");
+    bench(b"\x0401M1\x05S1\x05");
+}
+
+// Document 004: Modbus, 4.6 and 5.3.
+fn modbus_of_document_004() {
     crc(b"\x02\x03\x08\x00\x19\x00\x00\x00\x00\x00\x00");
     ask_with_m1(2, 25, b"\x03\x00\x00\x00\x04");
     ask(2, b"\x03\x00\x00\x00\x7E");
@@ -142,6 +148,7 @@ fn main() {
     rkc_line_of_document_000();
     modbus_of_document_000();
     documents_002_and_003();
-    document_004();
+    polling_of_document_004();
+    modbus_of_document_004();
     modbus_documents();
 }

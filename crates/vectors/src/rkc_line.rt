@@ -1,6 +1,5 @@
 // The examples of number text and of the RKC line. Each public function writes the line of one example.
 use crate::show;
-use line::ENQ;
 use line::EOT;
 use line::ETX;
 use line::STX;
@@ -107,25 +106,29 @@ pub fn bcc(chars: &[u8]) {
     show::end_of_line();
 }
 
-// M1 is polled after the firmware has put a value.
-pub fn poll_m1(value: i32) {
-    show::text(b"poll M1");
-    show::value(value);
+// The bytes come on a link at its start, and all that is replied is shown.
+fn show_replies(table: &mut [i32], bytes: &[u8]) {
     show::arrow();
-    let mut table = [0i32; items::ITEMS];
-    table::start(&mut table);
-    table::put(&mut table, M1, value);
-    let poll = [EOT, b'0', b'1', b'M', b'1', ENQ];
-    hear(Link::start(), &mut table, &poll, true);
+    hear(Link::start(), table, bytes, true);
     show::end_of_line();
 }
 
 pub fn bench(bytes: &[u8]) {
     show::text(b"bench");
     show::bytes(bytes);
-    show::arrow();
     let mut table = [0i32; items::ITEMS];
     table::start(&mut table);
-    hear(Link::start(), &mut table, bytes, true);
-    show::end_of_line();
+    show_replies(&mut table, bytes);
+}
+
+// The same after the firmware has put a value to M1.
+pub fn bench_with_m1(value: i32, bytes: &[u8]) {
+    show::text(b"bench, M1");
+    show::value(value);
+    show::text(b":");
+    show::bytes(bytes);
+    let mut table = [0i32; items::ITEMS];
+    table::start(&mut table);
+    table::put(&mut table, M1, value);
+    show_replies(&mut table, bytes);
 }
