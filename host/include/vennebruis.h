@@ -36,7 +36,7 @@
  *   known beforehand. So a reply is sent to its last byte, or copied, before its buffer is lent
  *   again, to vb_idle as well. Two lines that may answer at the same time have a buffer each. On a
  *   half-duplex line, what is heard while a reply goes out is not handed over: an echo of an item
- *   would end its own poll (43).
+ *   would end its own poll (43, or 41 where the echo has lost its STX and so begins another poll).
  *
  * Calls at the same time
  *   Calls that are lent different memory may run at the same time. Calls that share a table, a
@@ -111,7 +111,7 @@ enum vb_number {
     /* An RKC poll ends: the reply is EOT, the link rests, the table stays. */
     VB_NOT_BELONGING = 41,  /* a byte that does not belong into a poll */
     VB_UNKNOWN_POLLED = 42, /* no item has the identifier that was polled */
-    VB_NOT_AWAITED = 43,    /* neither ACK nor NAK nor EOT came after an item was sent */
+    VB_NOT_AWAITED = 43,    /* after an item: neither ACK, NAK, EOT nor 20H to 7EH */
     VB_TIMED_OUT = 44,      /* idle: no byte for three seconds after an item was sent */
     VB_LIST_ENDED = 45,     /* ACK after the last item: the end of the list, no fault */
     VB_NO_ROOM = 46         /* the item's value does not fit: no value in its range is one */
@@ -183,7 +183,7 @@ enum vb_phase {
     VB_ADDRESSED = 3,      /* the address was ours; a poll or a block is next */
     VB_ONE_CHARACTER = 4,  /* one character of an identifier came */
     VB_TWO_CHARACTERS = 5, /* two of them came; ENQ is next */
-    VB_WAITING = 6,        /* an item was sent; ACK, NAK or EOT is next */
+    VB_WAITING = 6,        /* an item was sent; ACK, NAK, EOT or another poll is next */
     VB_TEXT = 7,           /* a block is open */
     VB_BCC_DUE = 8,        /* ETX came; the block check character is next */
     VB_ANSWERED = 9        /* a block was answered; another one or EOT is next */
@@ -226,7 +226,8 @@ uint32_t vb_byte(uint8_t *state, uint64_t sn, int32_t *table, uint64_t tn, uint8
 /* To be called every now and then while no byte comes, so that a poll ends where the host falls
  * silent: once three seconds have gone by since the last item was sent, EOT is the reply and the
  * link rests (44). Before that, and in any other phase, it gives 0 and sends nothing; the state
- * keeps what its phase uses, and all else in it comes out as 0.
+ * keeps what its phase uses, and all else in it comes out as 0. So a poll that the host has begun
+ * by a character of an identifier has no limit, be it the first after the address or a later one.
  *
  * The time between two calls adds to the three seconds: with a call every 100 ms, EOT comes after 3
  * to 3.1 s. Bytes that have come are handed over first, or a host that answered in time is dropped.

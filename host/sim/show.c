@@ -31,7 +31,7 @@ static const struct row meanings[] = {
     {33, "exception 3, value, quantity, test code or length not allowed"},
     {41, "character that does not belong in a poll"},
     {42, "poll of an unknown identifier"},
-    {43, "neither ACK nor NAK nor EOT after a reply"},
+    {43, "after a reply neither ACK, NAK, EOT nor the start of another poll"},
     {44, "host silent for three seconds"},
     {45, "end of the item list"},
     {46, "value does not fit six characters"},
