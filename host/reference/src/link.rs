@@ -286,12 +286,15 @@ fn data(item: usize, table: &[i32], now: u32) -> Step {
 }
 
 /// While waiting: ACK sends the next item of the list, after item 12 EOT and rest (45); NAK sends
-/// the same item with its value now; any other byte, a line error too: EOT, rest (43).
+/// the same item with its value now; a character 20H to 7EH starts the identifier of a new poll of
+/// the same address, which from then on is a poll like any other; any other byte, a line error
+/// too: EOT, rest (43).
 fn waiting(item: usize, table: &[i32], now: u32, received: Received) -> Step {
     match received {
         Received::Character(ACK) if item == 12 => ended(45),
         Received::Character(ACK) => data(item + 1, table, now),
         Received::Character(NAK) => data(item, table, now),
+        Received::Character(first) if printable(first) => silent(Phase::OneCharacter { first }),
         _ => ended(43),
     }
 }

@@ -3,6 +3,7 @@
 mod block;
 mod calls;
 mod phases;
+mod polling_on;
 mod rtu;
 mod text;
 
@@ -17,6 +18,34 @@ pub const ACK: u8 = 0x06;
 pub const NAK: u8 = 0x15;
 
 pub const START: [i32; 12] = [0, 0, 0, 0, 0, 0, 500, 500, 0, 1000, 0, 0];
+
+/// Values that make every item's text its own; M1 stands at A1 and below A2.
+pub const OWN: [i32; 12] = [-15, 0, 0, 1, 255, 9999, -15, -14, -1000, 1500, 100, 999];
+
+/// What each item sends then: identifier and six characters.
+pub const OWN_TEXTS: [&[u8; 8]; 12] = [
+    b"M1-001.5",
+    b"AA000001",
+    b"AB000000",
+    b"B1000001",
+    b"ER000255",
+    b"S10999.9",
+    b"A1-001.5",
+    b"A2-001.4",
+    b"PB-10.00",
+    b"PR01.500",
+    b"F1000100",
+    b"TM000999",
+];
+
+/// The reply that sends an identifier and six characters.
+pub fn data(text: &[u8; 8]) -> Vec<u8> {
+    let mut reply = vec![STX];
+    reply.extend(text);
+    reply.push(ETX);
+    reply.push(text.iter().fold(ETX, |sum, character| sum ^ character));
+    reply
+}
 
 // Phases as the state's first byte has them.
 pub const REST: u8 = 0;
@@ -164,4 +193,20 @@ pub fn refused(link: &mut Link, call: impl Fn(&mut Link) -> (u32, Vec<u8>), numb
     let before = link.clone();
     assert_eq!(call(link), (number, vec![]));
     assert_eq!(*link, before);
+}
+
+/// A byte that goes to a phase with no reply.
+pub fn goes(state: [u8; 24], byte: u8, to: [u8; 24]) {
+    let mut link = Link::from(state);
+    assert_eq!(link.byte(byte), (0, vec![]), "{:02X}", byte);
+    assert_eq!(link.state, to, "{:02X}", byte);
+    assert_eq!(link.table, START);
+}
+
+/// A byte that is answered with EOT and brings the link to rest.
+pub fn ends(state: [u8; 24], byte: u8, number: u32) {
+    let mut link = Link::from(state);
+    assert_eq!(link.byte(byte), (number, vec![EOT]), "{:02X}", byte);
+    assert_eq!(link.state, bare(REST), "{:02X}", byte);
+    assert_eq!(link.table, START);
 }

@@ -5,22 +5,6 @@ use crate::*;
 /// The reply to a poll of PB at the start: "000.00", BCC 50^42^30^30^30^2E^30^30^03 = 0F.
 const PB_ZERO: [u8; 11] = *b"\x02PB000.00\x03\x0F";
 
-/// A byte that goes to a phase with no reply.
-fn goes(state: [u8; 24], byte: u8, to: [u8; 24]) {
-    let mut link = Link::from(state);
-    assert_eq!(link.byte(byte), (0, vec![]), "{:02X}", byte);
-    assert_eq!(link.state, to, "{:02X}", byte);
-    assert_eq!(link.table, START);
-}
-
-/// A byte that is answered with EOT and brings the link to rest.
-fn ends(state: [u8; 24], byte: u8, number: u32) {
-    let mut link = Link::from(state);
-    assert_eq!(link.byte(byte), (number, vec![EOT]), "{:02X}", byte);
-    assert_eq!(link.state, bare(REST), "{:02X}", byte);
-    assert_eq!(link.table, START);
-}
-
 #[test]
 fn at_rest_all_but_eot_is_ignored() {
     for byte in 0..=255 {
@@ -120,52 +104,43 @@ fn a_known_identifier_is_answered_and_the_time_is_stamped() {
 
 #[test]
 fn while_waiting() {
-    for byte in 0..=255 {
-        match byte {
-            EOT => goes(waiting(9, 5), byte, bare(FIRST_DIGIT)),
-            ACK | NAK => {}
-            _ => ends(waiting(9, 5), byte, 43),
+    for structure in 0..=2 {
+        let eot = on_line(structure, EOT);
+        for byte in 0..=255 {
+            let character = byte & 0x7F;
+            let right = byte == on_line(structure, character);
+            let (number, reply, after) = match character {
+                EOT if right => (0, vec![], bare(FIRST_DIGIT)),
+                ACK | NAK if right => continue,
+                0x20..=0x7E if right => (0, vec![], one(character)),
+                _ => (43, vec![eot], bare(REST)),
+            };
+            let mut link = Link::from(waiting(9, 5));
+            link.structure = structure;
+            assert_eq!(link.byte(byte), (number, reply), "{:02X}", byte);
+            assert_eq!(link.state, after, "{:02X}", byte);
+            assert_eq!(link.table, START);
         }
     }
 }
 
 #[test]
 fn ack_goes_through_the_list_and_ends_with_45() {
-    // The values make every item's text its own; M1 stands at A1 and below A2.
-    let table = [-15, 0, 0, 1, 255, 9999, -15, -14, -1000, 1500, 100, 999];
-    let texts: [&[u8; 8]; 12] = [
-        b"M1-001.5",
-        b"AA000001",
-        b"AB000000",
-        b"B1000001",
-        b"ER000255",
-        b"S10999.9",
-        b"A1-001.5",
-        b"A2-001.4",
-        b"PB-10.00",
-        b"PR01.500",
-        b"F1000100",
-        b"TM000999",
-    ];
     let mut link = Link::start();
-    link.table = table.to_vec();
-    for (place, text) in texts.iter().enumerate() {
+    link.table = OWN.to_vec();
+    for (place, text) in OWN_TEXTS.iter().enumerate() {
         link.now = 1000 * place as u32;
         let (number, reply) = if place == 0 {
             link.bytes(b"\x0401M1\x05")
         } else {
             link.byte(ACK)
         };
-        let mut expected = vec![STX];
-        expected.extend(*text);
-        expected.push(ETX);
-        expected.push(text.iter().fold(ETX, |sum, character| sum ^ character));
-        assert_eq!((number, reply), (0, expected));
+        assert_eq!((number, reply), (0, data(text)));
         assert_eq!(link.state, waiting(place as u8 + 1, link.now));
     }
     assert_eq!(link.byte(ACK), (45, vec![EOT]));
     assert_eq!(link.state, bare(REST));
-    assert_eq!(link.table, table);
+    assert_eq!(link.table, OWN);
 }
 
 #[test]
