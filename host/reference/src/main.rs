@@ -128,21 +128,18 @@ fn bcc(characters: &str) {
     );
 }
 
-/// A poll of an item that the firmware has put.
-fn poll(id: &str, value: i32) {
-    let mut instrument = Instrument::at(1);
-    instrument.put(id, value);
-    let mut sent = vec![line::EOT, b'0', b'1'];
-    sent.extend(id.as_bytes());
-    sent.push(line::ENQ);
-    let (_, reply) = instrument.line(&sent);
-    println!("poll {} {} -> {}", id, value, hex(&reply));
-}
-
 /// The bench program's replies.
 fn bench(input: &str) {
     let (_, replies) = Instrument::at(1).line(&bytes(input));
     println!("bench {} -> {}", input, hex(&replies));
+}
+
+/// The same, after the firmware has put an item.
+fn bench_with(id: &str, value: i32, input: &str) {
+    let mut instrument = Instrument::at(1);
+    instrument.put(id, value);
+    let (_, replies) = instrument.line(&bytes(input));
+    println!("bench, {} {}: {} -> {}", id, value, input, hex(&replies));
 }
 
 /// A value as a register.
@@ -278,10 +275,12 @@ fn rex_f9000() {
     bcc("4D 31 30 32 33 2E 30 30 30 03");
 }
 
-/// Document 004.
+/// Document 004, and the host program of document 02 that takes it at its word.
 fn pg500() {
     bcc("4D 31 30 31 30 30 2E 30 03");
-    poll("M1", 1000);
+    bench_with("M1", 1000, "04 30 31 4D 31 05");
+    bench_with("M1", 1000, "04 30 31 4D 31 05 4D 31 05");
+    bench("04 30 31 4D 31 05 53 31 05");
     crc("02 03 08 00 19 00 00 00 00 00 00");
     ask_with(2, "M1", 25, "02 03 00 00 00 04");
     ask(2, "02 03 00 00 00 7E");
