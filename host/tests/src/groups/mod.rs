@@ -9,6 +9,7 @@ mod noise;
 mod number_text;
 mod order;
 mod phases;
+mod polling_on;
 mod polls;
 mod put;
 mod requests;
@@ -38,6 +39,8 @@ const GROUPS: &[(&str, Calls)] = &[
     ("every identifier polled", polls::identifiers),
     ("every identifier in a block", blocks::identifiers),
     ("every item at times around the turn", polls::times),
+    ("polling on from each item", polling_on::whole),
+    ("every byte while polling on", polling_on::every_byte),
     ("item numbers with other bits", put::item_numbers),
     ("silence, and the turn of the time", idle::silence),
     ("right frames of every length", frames::lengths),

@@ -68,10 +68,11 @@ fn sessions(compare: &mut Compare, random: &mut Random, line: Line) -> Checked<(
 
 /// The characters of one move of the host.
 fn moved(random: &mut Random, address: u8) -> Vec<u8> {
-    match random.below(10) {
+    match random.below(12) {
         0..=2 => poll(random, address),
-        3..=5 => answers(random),
-        6..=8 => selected(random, address),
+        3..=4 => polled_on(random),
+        5..=7 => answers(random),
+        8..=10 => selected(random, address),
         _ => vec![random.pick(&[EOT, STX, ETX, ENQ, ACK, NAK, b'0', 0x7F, 0])],
     }
 }
@@ -93,6 +94,21 @@ fn poll(random: &mut Random, address: u8) -> Vec<u8> {
     } else {
         ENQ
     });
+    characters
+}
+
+/// Polls behind a reply, which need no address. Now and then one has a character in it that does
+/// not belong there, or one too many.
+fn polled_on(random: &mut Random) -> Vec<u8> {
+    let mut characters = vec![];
+    for _ in 0..=random.below(4) {
+        characters.extend(identifier(random));
+        characters.push(ENQ);
+    }
+    if random.one_in(3) {
+        let place = random.below(characters.len());
+        characters.insert(place, random.pick(&[ACK, NAK, STX, ENQ, 0x7F, b'1']));
+    }
     characters
 }
 

@@ -91,13 +91,17 @@ fn blocks(compare: &mut Compare, random: &mut Random, text: &[u8], number: u32) 
 /// The same on a poll that ends, goes on, or is answered.
 fn polls(compare: &mut Compare, random: &mut Random) -> Checked<()> {
     let item = with_id(b"TM").expect("an item of the list") as u8;
-    let steps: [(u8, u8, &[u8], u8, u32); 8] = [
+    let steps: [(u8, u8, &[u8], u8, u32); 12] = [
         (0, 0, b"", STX, 0),
         (ONE_CHARACTER, 0, b"P", ENQ, 41),
         (TWO_CHARACTERS, 0, b"PB", b'B', 41),
         (TWO_CHARACTERS, 0, b"P?", ENQ, 42),
         (TWO_CHARACTERS, 0, b"PB", ENQ, 0),
         (WAITING, item, b"", ENQ, 43),
+        (WAITING, item, b"", STX, 43),
+        (WAITING, item, b"", b' ', 0),
+        (WAITING, item, b"", b'~', 0),
+        (WAITING, item, b"", 0x7F, 43),
         (WAITING, item, b"", ACK, 45),
         (WAITING, item - 1, b"", ACK, 0),
     ];
