@@ -1,11 +1,11 @@
-"""A host on the RKC line: polling, selecting, refusals and the three seconds of silence."""
+"""A host on the RKC line: polling, polling on, selecting, refusals and three seconds of silence."""
 
 import contextlib
 import time
 
 import panel
 from checks import Simulator
-from rkc_host import ACK, ENQ, EOT, NAK, Host, block, open_port
+from rkc_host import ACK, ENQ, EOT, NAK, STX, Host, block, open_port
 
 ACKNOWLEDGED = bytes([ACK])
 REFUSED = bytes([NAK])
@@ -33,6 +33,27 @@ def polling(checks, host):
     checks.same("NAK", host.again(), ("PR", "01.000"))
     host.send([EOT])
     checks.same("poll of an unknown identifier", host.poll("ZZ"), ENDED)
+
+
+def polling_on(checks, host):
+    """Polls without the address: the list backwards, S1 behind M1 with NAK and ACK, and what ends
+    them."""
+    host.poll("M1")
+    for row in reversed(panel.ITEMS):
+        got = host.poll_on(row.name)
+        checks.same(f"{row.name} polled on", got, (row.name, panel.text_of(row, row.start)))
+    checks.same("S1 behind M1", host.poll_on("S1"), ("S1", "0000.0"))
+    checks.same("NAK behind S1", host.again(), ("S1", "0000.0"))
+    checks.same("ACK behind S1", host.next(), ("A1", "0050.0"))
+    checks.same("an unknown identifier polled on", host.poll_on("ZZ"), ENDED)
+    host.send([*b"M1", ENQ])
+    checks.same("no address after that", host.hear(1, QUIET_SECONDS), NOTHING)
+    host.poll("M1")
+    host.send([*b"S", ACK])
+    checks.same("ACK behind a first character", host.hear(1), ENDED)
+    host.poll("M1")
+    host.send([STX])
+    checks.same("STX while waiting", host.hear(1), ENDED)
 
 
 def selecting(checks, host):
@@ -71,7 +92,7 @@ def line_rules(checks, host):
 
 
 def line_errors(checks, host):
-    """A character whose top bit is wrong: in a block, and in the place of EOT."""
+    """A character whose top bit is wrong: in a block, in the place of EOT, and while waiting."""
     stx, *text, bcc = block("TM", "13")
     host.send([EOT, *host.address, stx])
     host.send_damaged(text[0])
@@ -81,6 +102,8 @@ def line_errors(checks, host):
     host.send([*host.address, *b"TM", ENQ])
     checks.same("EOT with a line error", host.hear(1, QUIET_SECONDS), NOTHING)
     checks.same("poll of TM", host.poll("TM"), ("TM", "000012"))
+    host.send_damaged(ord("S"))
+    checks.same("a line error while waiting", host.hear(1), ENDED)
 
 
 def silence(checks, host):
@@ -96,12 +119,23 @@ def silence(checks, host):
     checks.same("ACK after that", host.hear(1, QUIET_SECONDS), NOTHING)
 
 
+def slow_poll(checks, host):
+    """Once the first character of a poll has come, the panel waits for the rest without limit."""
+    host.poll("M1")
+    host.send(b"T")
+    got = host.hear(1, PATIENCE_SECONDS + LATE_SECONDS)
+    checks.same("silence behind a first character", got, NOTHING)
+    host.send([*b"M", ENQ])
+    checks.same("the rest of that poll", host.data(), ("TM", "000012"))
+
+
 def run(checks, command):
     for structure, address in ((0, 1), (1, 42), (2, 0)):
         words = ("rkc", "--address", str(address), "--structure", str(structure))
         with checks.of(f"rkc {structure}"), Simulator(command, *words) as simulator:
             with contextlib.closing(Host(open_port(simulator.port), address, structure)) as host:
                 polling(checks, host)
+                polling_on(checks, host)
                 selecting(checks, host)
                 number_text(checks, host)
                 line_rules(checks, host)
@@ -109,4 +143,5 @@ def run(checks, command):
                 # Time does not depend on the structure, and takes its time to try.
                 if structure == 1:
                     silence(checks, host)
+                    slow_poll(checks, host)
             checks.same("end of the simulator", simulator.end(), 0)

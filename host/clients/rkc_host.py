@@ -106,6 +106,11 @@ class Host:
         self.send(bytes([EOT]) + self.address + name.encode() + bytes([ENQ]))
         return self.data()
 
+    def poll_on(self, name):
+        """A poll behind a reply, which needs neither EOT nor the address."""
+        self.send(name.encode() + bytes([ENQ]))
+        return self.data()
+
     def next(self):
         self.send([ACK])
         return self.data()
