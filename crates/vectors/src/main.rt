@@ -103,16 +103,12 @@ fn documents_002_and_003() {
     bcc(b"M1023.000\x03");
 }
 
-// Document 004: polling, 3.1.1, the second time without EOT and address; and so the host program of document 02, 1/14.
-fn polling_of_document_004() {
+// Document 004: polling, 3.1.1, with the host program of document 02 that polls on as 004 says; and Modbus, 4.6 and 5.3.
+fn document_004() {
     bcc(b"M10100.0\x03");
     bench_with_m1(1000, b"\x0401M1\x05");
     bench_with_m1(1000, b"\x0401M1\x05M1\x05");
     bench(b"\x0401M1\x05S1\x05");
-}
-
-// Document 004: Modbus, 4.6 and 5.3.
-fn modbus_of_document_004() {
     crc(b"\x02\x03\x08\x00\x19\x00\x00\x00\x00\x00\x00");
     ask_with_m1(2, 25, b"\x03\x00\x00\x00\x04");
     ask(2, b"\x03\x00\x00\x00\x7E");
@@ -148,7 +144,6 @@ fn main() {
     rkc_line_of_document_000();
     modbus_of_document_000();
     documents_002_and_003();
-    polling_of_document_004();
-    modbus_of_document_004();
+    document_004();
     modbus_documents();
 }
