@@ -85,7 +85,7 @@ fn at_digit(digit: u8, next: u8, c: u8) -> Act
     }
 }
 
-// A printable character is the first of an identifier; any other byte asks for what is given here.
+// A printable character is the first of an identifier; any other byte asks for the other act.
 fn first_or(c: u8, other: Act) -> Act
     ensures { λ r. ⌜ r ≡ cond (printable c) (First c) other ⌝ }
 {
@@ -128,8 +128,8 @@ fn at_two_characters(first: u8, second: u8, c: u8) -> Act
     }
 }
 
-// The host goes on through the list by ACK, asks again by NAK, or polls another item of the same address. Past the last item there
-// is no next one, whatever the item.
+// The host goes on through the list by ACK, asks again by NAK, or begins a new poll of the same address. Past the last item there is
+// no next one, whatever the item.
 fn at_waiting(last: u8, item: u8, c: u8) -> Act
     ensures { λ r. ⌜ r ≡ atWaiting last item c ⌝ }
 {
