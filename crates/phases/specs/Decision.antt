@@ -27,9 +27,13 @@ atFirstDigit address c = atDigit (address / 10) secondDigit c
 abbrev pub atSecondDigit : ℕ → ℕ → Act
 atSecondDigit address c = atDigit (address % 10) addressed c
 
+-- a printable character is the first of an identifier; any other byte asks for the other act
+abbrev pub firstOr : ℕ → Act → Act
+firstOr c other = cond (printable c) (First c) other
+
 -- STX opens a block; a printable character is the first of an identifier; other bytes: rest, silent
 abbrev pub atAddressed : ℕ → Act
-atAddressed c = cond (eqb c STX) (Go text) (cond (printable c) (First c) (Go rest))
+atAddressed c = cond (eqb c STX) (Go text) (firstOr c (Go rest))
 
 -- a line error: rest, silent; any other byte that doesn't belong: EOT, rest
 abbrev pub astray : ℕ → Act
@@ -48,8 +52,7 @@ atTwoCharacters first second c = cond (eqb c ENQ) (Poll first second) (astray c)
 abbrev pub atWaiting : ℕ → ℕ → ℕ → Act
 atWaiting last item c =
     cond (eqb c ACK) (cond (ltb item last) (Send (item + 1)) (Quit listEnded))
-    (cond (eqb c NAK) (Send item)
-    (cond (printable c) (First c) (Quit notAwaited)))
+    (cond (eqb c NAK) (Send item) (firstOr c (Quit notAwaited)))
 
 -- all bytes but ETX (and EOT) are text
 abbrev pub atText : ℕ → Act

@@ -1,11 +1,8 @@
 // The decision over phase and character: what a byte asks for in a phase of the RKC link. Bytes come as they were heard, 80H up
-// being line errors, so that each phase's match has ranges for digits, printable and control characters and for line errors too.
+// being line errors, so that matches have ranges for digits, printable and control characters and for line errors too.
 // Nothing here touches a state, a table or a buffer: the caller does what an act says.
 ghost use mathlib.Core.Path.{_≡_};
-ghost use mathlib.Core.Bool.{cond};
-ghost use Rattle.line.specs.Line.{printable};
-ghost use Rattle.phases.specs.Decision.{atDigit, atAddressed, atOneCharacter, atTwoCharacters, atWaiting, atText, atAnswered, decided};
-ghost use Rattle.phases.specs.declared.Act.the-variants.{First};
+ghost use Rattle.phases.specs.Decision.{atDigit, firstOr, atAddressed, atOneCharacter, atTwoCharacters, atWaiting, atText, atAnswered, decided};
 use line::ACK;
 use line::ENQ;
 use line::EOT;
@@ -87,7 +84,7 @@ fn at_digit(digit: u8, next: u8, c: u8) -> Act
 
 // A printable character is the first of an identifier; any other byte asks for the other act.
 fn first_or(c: u8, other: Act) -> Act
-    ensures { λ r. ⌜ r ≡ cond (printable c) (First c) other ⌝ }
+    ensures { λ r. ⌜ r ≡ firstOr c other ⌝ }
 {
     match c {
         0x20..=0x7E => Act::First(c),
@@ -128,8 +125,8 @@ fn at_two_characters(first: u8, second: u8, c: u8) -> Act
     }
 }
 
-// The host goes on through the list by ACK, asks again by NAK, or begins a new poll of the same address. Past the last item there is
-// no next one, whatever the item.
+// The host goes on through the list by ACK, asks again by NAK, or begins a new poll of the same address. Past the last item there
+// is no next one, whatever the item.
 fn at_waiting(last: u8, item: u8, c: u8) -> Act
     ensures { λ r. ⌜ r ≡ atWaiting last item c ⌝ }
 {

@@ -8,13 +8,14 @@ use lib.IntN.{ℤ}
 use lib.Seq.{sets}
 use lib.Signed.{leZ}
 use Rattle.numbers.specs.Numbers.{none}
-use Rattle.items.specs.ItemList.{itemAt, inRange}
+use Rattle.items.specs.ItemList.{itemAt, found, inRange}
 use Rattle.table.specs.Table.{goodTable, entry, M1, AA, AB, A1, A2}
-use Rattle.line.specs.Line.{within, printable, keeps, sent, heard}
+use Rattle.line.specs.Line.{ENQ, within, printable, keeps, sent, heard}
 use Rattle.phases.specs.Phases.{addressed, waiting}
 use Rattle.rkc.specs.declared.Stepped.{Stepped}
-use Rattle.rkc.specs.State.{inPhase, waitingOn, inLimits}
-use Rattle.rkc.specs.Outcome.{Step, silent, noRoom, dataReply, itemSent, ByteCall, byteFault, received, IdleCall, idleFault, idled}
+use Rattle.rkc.specs.State.{inPhase, holdingOne, waitingOn, inLimits}
+use Rattle.rkc.specs.Outcome.{Step, keeping, silent, noRoom, dataReply, itemSent, polled}
+use Rattle.rkc.specs.Outcome.{ByteCall, byteFault, received, IdleCall, idleFault, idled}
 use Rattle.rkc.specs.Numbers.{oneOf, byteFaults, byteNumbers, byteExamples, idleFaults, idleNumbers, idleExamples}
 use Rattle.rkc.specs.Promise.{Leads, Idles}
 
@@ -90,11 +91,15 @@ pub record OfNumbers : Type 0 where
 
 -- ---- polling on without the address
 
--- while waiting, without a fault, a character from 20H to 7EH comes
+-- the byte as it was heard
+abbrev pub came : ByteCall → ℕ
+came call = heard (call .structure) (call .byte)
+
+-- while waiting a character from 20H to 7EH comes, and the caller makes no fault
 pub record PollsOn (call : ByteCall) : Type 0 where
-  pub fine : byteFault call ≡ none
-  pub waits : call .link .phase ≡ waiting
-  pub prints : printable (heard (call .structure) (call .byte)) ≡ true
+  pub noFault : byteFault call ≡ none
+  pub whileWaiting : call .link .phase ≡ waiting
+  pub isPrintable : printable (came call) ≡ true
 
 -- the same call right after the address
 abbrev pub afterAddress : ByteCall → ByteCall
@@ -119,10 +124,17 @@ idleAfter call time =
       time = time;
     }
 
--- then all is as right after the address, and no silence ends the poll that it begins
+-- it is kept as the first of an identifier, and all is as right after the address; a second one and ENQ, each at its time, poll what
+-- the two name; no silence on the way ends the poll
 pub record OfPollingOn (call : ByteCall) : Type 0 where
+  pub firstKept : received call ≡ keeping (call .table) (silent (holdingOne (came call)))
   pub asAddressed : received call ≡ received (afterAddress call)
-  pub noLimit : (time : ℕ) → idled (idleAfter call time) ≡ silent (received call .step .link)
+  pub polls : (t u second third : ℕ) → printable (heard (call .structure) second) ≡ true → heard (call .structure) third ≡ ENQ
+      → received (nextByte (nextByte call t second) u third)
+      ≡ keeping (call .table) (polled (call .structure) u (call .table) (found (came call) (heard (call .structure) second)))
+  pub noLimitAfterFirst : (time : ℕ) → idled (idleAfter call time) ≡ silent (received call .step .link)
+  pub noLimitAfterSecond : (t second time : ℕ) → printable (heard (call .structure) second) ≡ true
+      → idled (idleAfter (nextByte call t second) time) ≡ silent (received (nextByte call t second) .step .link)
 
 -- ---- the alarm states
 

@@ -15,7 +15,7 @@ const UNKNOWN: [[u8; 2]; 8] = [
 ];
 
 /// Behind each item, in each structure, each identifier of the list and others; two more polls
-/// follow.
+/// follow. Behind an unknown one they meet a link at rest.
 pub fn whole(compare: &mut Compare, random: &mut Random) -> Checked<()> {
     let identifiers: Vec<[u8; 2]> = ITEMS.iter().map(|row| row.id).chain(UNKNOWN).collect();
     for item in 1..=12 {
