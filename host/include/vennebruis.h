@@ -226,8 +226,8 @@ uint32_t vb_byte(uint8_t *state, uint64_t sn, int32_t *table, uint64_t tn, uint8
 /* To be called every now and then while no byte comes, so that a poll ends where the host falls
  * silent: once three seconds have gone by since the last item was sent, EOT is the reply and the
  * link rests (44). Before that, and in any other phase, it gives 0 and sends nothing; the state
- * keeps what its phase uses, and all else in it comes out as 0. So a poll that the host has begun
- * by a character of an identifier has no limit, be it the first after the address or a later one.
+ * keeps what its phase uses, and all else in it comes out as 0. So once the first character of an
+ * identifier has come, right after the address or after an item, its poll has no limit.
  *
  * The time between two calls adds to the three seconds: with a call every 100 ms, EOT comes after 3
  * to 3.1 s. Bytes that have come are handed over first, or a host that answered in time is dropped.
