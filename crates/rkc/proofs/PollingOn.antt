@@ -15,7 +15,7 @@ use Rattle.items.specs.ItemList.{items}
 use Rattle.line.specs.Line.{lastStructure, printable, heard}
 use Rattle.phases.specs.Phases.{addressed, waiting}
 use Rattle.phases.specs.declared.Act.{Act}
-use Rattle.phases.specs.declared.Act.the-variants.{First, Both, Poll}
+use Rattle.phases.specs.declared.Act.the-variants.{First}
 use Rattle.phases.proofs.Identifier.{first-waiting, first-addressed, second-character, enquiry}
 use Rattle.rkc.specs.declared.Link.{Link}
 use Rattle.rkc.specs.State.{holdingOne, holdingTwo, asBlock, used}

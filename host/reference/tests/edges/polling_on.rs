@@ -120,22 +120,26 @@ fn the_first_character_may_come_late_where_no_idle_call_was_made() {
 
 #[test]
 fn in_the_structures_with_parity() {
-    // Even: 'S' 53, '1' B1, ENQ 05.
-    let mut link = Link::from(waiting(1, 0));
-    link.structure = 1;
-    let reply = vec![
-        0x82, 0x53, 0xB1, 0x30, 0x30, 0x30, 0x30, 0x2E, 0x30, 0x03, 0xFF,
-    ];
-    assert_eq!(link.bytes(&[0x53, 0xB1, 0x05]), (0, reply));
-    // 'S' with the other top bit is a line error: EOT, rest, 43.
-    assert_eq!(link.byte(0xD3), (43, vec![0x84]));
-
-    // Odd: 'S' D3, '1' 31, ENQ 85.
-    let mut link = Link::from(waiting(1, 0));
-    link.structure = 2;
-    let reply = vec![
-        0x02, 0xD3, 0x31, 0xB0, 0xB0, 0xB0, 0xB0, 0xAE, 0xB0, 0x83, 0x7F,
-    ];
-    assert_eq!(link.bytes(&[0xD3, 0x31, 0x85]), (0, reply));
-    assert_eq!(link.byte(0x53), (43, vec![0x04]));
+    // "S1" and ENQ, the reply, and then 'S' with the other top bit, a line error, with its EOT.
+    let even = (
+        1,
+        [0x53, 0xB1, 0x05],
+        b"\x82\x53\xB10000.0\x03\xFF",
+        0xD3,
+        0x84,
+    );
+    let odd = (
+        2,
+        [0xD3, 0x31, 0x85],
+        b"\x02\xD31\xB0\xB0\xB0\xB0\xAE\xB0\x83\x7F",
+        0x53,
+        0x04,
+    );
+    for (structure, poll, reply, error, eot) in [even, odd] {
+        let mut link = Link::from(waiting(1, 0));
+        link.structure = structure;
+        assert_eq!(link.bytes(&poll), (0, reply.to_vec()));
+        assert_eq!(link.byte(error), (43, vec![eot]));
+        assert_eq!(link.state, bare(REST));
+    }
 }
