@@ -124,8 +124,8 @@ idleAfter call time =
       time = time;
     }
 
--- it is kept as the first of an identifier, and all is as right after the address; a second one and ENQ, each at its time, poll what
--- the two name; no silence on the way ends the poll
+-- it is kept as the first of an identifier, and all is as right after the address; a second one and ENQ, each at its time, poll
+-- what the two name; no silence on the way ends the poll
 pub record OfPollingOn (call : ByteCall) : Type 0 where
   pub firstKept : received call ≡ keeping (call .table) (silent (holdingOne (came call)))
   pub asAddressed : received call ≡ received (afterAddress call)
