@@ -285,13 +285,12 @@ fn pg500() {
     ask_with(2, "M1", 25, "02 03 00 00 00 04");
     ask(2, "02 03 00 00 00 7E");
     rtu(1, "01 06 00 F4 00 32 49 ED");
-    crc("01 10 00 F4 00 02 04 00 32 00 32");
     crc("01 10 00 F4 00 02");
-    crc("01 90 02");
+    rtu(1, "01 10 00 F4 00 02 04 00 32 00 32 DD 02");
     register(1050);
 }
 
-/// Modbus over Serial Line and the Modbus Application Protocol.
+/// Modbus over Serial Line, the Modbus Application Protocol, and what document 02 takes from it.
 fn modbus_documents() {
     crc("02 07");
     pdu("08 00 00 A5 37");
@@ -301,10 +300,11 @@ fn modbus_documents() {
     pdu("05 00 AC FF 00");
     pdu("07");
     pdu("0F 00 13 00 0A 02 CD 01");
-    pdu("10 00 01 00 02 04 00 0A 01 02");
     pdu("16 00 04 00 F2 00 25");
     pdu("03 00 6B 00 03");
     pdu("06 00 01 00 03");
+    pdu("10 00 01 00 02 04 00 0A 01 02");
+    pdu("10 00 10 00 03 06 FF 6A 03 E8 00 64");
 }
 
 fn main() {

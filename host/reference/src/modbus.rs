@@ -1,4 +1,5 @@
-//! Modbus RTU: the CRC, registers and the three functions.
+//! Modbus RTU: the CRC, registers and the four functions: 03H, 06H and 08H as document 01 has them,
+//! 10H as document 02 does.
 
 use crate::items;
 
@@ -81,11 +82,12 @@ fn function(table: &mut [i32], body: &[u8]) -> Result<Vec<u8>, u8> {
         0x03 => read(table, body),
         0x06 => write(table, body),
         0x08 => loopback(body),
+        0x10 => write_several(table, body),
         _ => Err(1),
     }
 }
 
-/// The three functions have frames of 8 bytes, so a body of 6.
+/// 03H, 06H and 08H have frames of 8 bytes, so a body of 6.
 fn check_length(body: &[u8]) -> Result<(), u8> {
     if body.len() == 6 {
         Ok(())
@@ -119,16 +121,67 @@ fn read(table: &[i32], body: &[u8]) -> Result<Vec<u8>, u8> {
 /// 06H: the register must be a writable item, then the value in range; reply equals request.
 fn write(table: &mut [i32], body: &[u8]) -> Result<Vec<u8>, u8> {
     check_length(body)?;
-    let item = match items::with_register(word(body[2], body[3])) {
-        Some(item) if items::item(item).writable => item,
-        _ => return Err(2),
-    };
-    let value = value_of(word(body[4], body[5]));
-    if !items::in_range(item, value) {
-        return Err(3);
-    }
+    let item = writable(word(body[2], body[3]))?;
+    let value = in_range(item, word(body[4], body[5]))?;
     table[item - 1] = value;
     Ok(body.to_vec())
+}
+
+/// The number of the writable item with this register. All others, unlisted or read-only, inside
+/// the map or past it, refuse a write.
+fn writable(register: u16) -> Result<usize, u8> {
+    match items::with_register(register) {
+        Some(item) if items::item(item).writable => Ok(item),
+        _ => Err(2),
+    }
+}
+
+/// The value that a register brings to an item, which must be in the item's range.
+fn in_range(item: usize, register: u16) -> Result<i32, u8> {
+    let value = value_of(register);
+    if items::in_range(item, value) {
+        Ok(value)
+    } else {
+        Err(3)
+    }
+}
+
+/// 10H: any register not writable refuses the request, then any value out of range. So all
+/// registers are written or none. The reply repeats address, function, start and quantity.
+fn write_several(table: &mut [i32], body: &[u8]) -> Result<Vec<u8>, u8> {
+    let quantity = quantity_of_several(body)?;
+    let start = word(body[2], body[3]);
+    let mut items = vec![];
+    for place in 0..quantity {
+        // Sums do not go round: there is no register past FFFFH.
+        let register = start.checked_add(place).ok_or(2)?;
+        items.push(writable(register)?);
+    }
+    let mut values = vec![];
+    for (item, data) in items.iter().zip(body[7..].chunks(2)) {
+        values.push(in_range(*item, word(data[0], data[1]))?);
+    }
+    for (item, value) in items.into_iter().zip(values) {
+        table[item - 1] = value;
+    }
+    Ok(body[..6].to_vec())
+}
+
+/// The quantity of a 10H, 1 to 123. The byte count is twice the quantity; the frame has nine bytes
+/// more than it counts, so the body seven. A body too short to hold both is refused like these.
+fn quantity_of_several(body: &[u8]) -> Result<u16, u8> {
+    if body.len() < 7 {
+        return Err(3);
+    }
+    let quantity = word(body[4], body[5]);
+    let count = usize::from(body[6]);
+    if !(1..=123).contains(&quantity) {
+        return Err(3);
+    }
+    if count != 2 * usize::from(quantity) || body.len() != 7 + count {
+        return Err(3);
+    }
+    Ok(quantity)
 }
 
 /// 08H: test code 0; reply equals request.

@@ -38,6 +38,8 @@ pub struct Compare {
     calls: u64,
     /// How often each number was given back by each function.
     counts: [[u64; 256]; 8],
+    /// The same for frames, by the Modbus function that they ask for.
+    asked: Vec<[u64; 256]>,
 }
 
 impl Compare {
@@ -50,6 +52,7 @@ impl Compare {
             running: Batch::default(),
             calls: 0,
             counts: [[0; 256]; 8],
+            asked: vec![[0; 256]; 256],
         })
     }
 
@@ -62,7 +65,7 @@ impl Compare {
         let result = call.by_reference();
         call.answer(result, &mut batch.answers);
         batch.ends.push(batch.answers.len());
-        self.counts[call.function as usize][(result % 256) as usize] += 1;
+        self.counted(call, (result % 256) as usize);
         if self.filling.requests.len() >= BATCH_BYTES {
             self.turn()?;
         }
@@ -79,8 +82,21 @@ impl Compare {
         self.calls
     }
 
-    pub fn count(&self, function: Function, number: usize) -> u64 {
-        self.counts[function as usize][number]
+    fn counted(&mut self, call: &Call, number: usize) {
+        self.counts[call.function as usize][number] += 1;
+        if let (Function::Rtu, Some(asked)) = (call.function, call.input.get(1)) {
+            self.asked[usize::from(*asked)][number] += 1;
+        }
+    }
+
+    /// How often a function gave each number back.
+    pub fn counts(&self, function: Function) -> &[u64; 256] {
+        &self.counts[function as usize]
+    }
+
+    /// How often each number was given back to frames that ask for a Modbus function.
+    pub fn counts_asked(&self, function: u8) -> &[u64; 256] {
+        &self.asked[usize::from(function)]
     }
 
     /// Takes in the answers to the running batch and hands over the filled one.

@@ -1,4 +1,5 @@
-//! The numbers given back in a run: for each function those that the header lists, and no other.
+//! The numbers given back in a run: for each function those that the header lists, and no other; and
+//! likewise for each Modbus function that a frame can ask for.
 
 use crate::call::Function;
 use crate::compare::Compare;
@@ -23,20 +24,35 @@ const GIVEN: [(Function, &[usize]); 8] = [
     (Function::WriteText, &[0, 3, 8, 9]),
 ];
 
+/// The numbers that a frame can give back by the Modbus function that it asks for.
+const ASKED: [(u8, &[usize]); 4] = [
+    (0x03, &[0, 1, 2, 3, 4, 21, 22, 23, 32, 33]),
+    (0x06, &[0, 1, 2, 3, 4, 21, 22, 23, 32, 33]),
+    (0x08, &[0, 1, 2, 3, 4, 21, 22, 23, 33]),
+    (0x10, &[0, 1, 2, 3, 4, 21, 22, 23, 32, 33]),
+];
+
 pub fn reached(compare: &Compare) -> Checked<()> {
     for (function, given) in GIVEN {
-        let name = function.name();
-        let counted: Vec<String> = given
-            .iter()
-            .map(|number| format!("{number} ({})", compare.count(function, *number)))
-            .collect();
-        println!("{name} gave {}", counted.join(", "));
-        for number in 0..256 {
-            let times = compare.count(function, number);
-            if given.contains(&number) != (times > 0) {
-                let why = format!("{name} gave number {number} {times} times");
-                return Err(Failure::wrong(why));
-            }
+        all_and_no_other(function.name(), compare.counts(function), given)?;
+    }
+    for (function, given) in ASKED {
+        let name = format!("{} asked for {function:02X}H", Function::Rtu.name());
+        all_and_no_other(&name, compare.counts_asked(function), given)?;
+    }
+    Ok(())
+}
+
+fn all_and_no_other(name: &str, counts: &[u64; 256], given: &[usize]) -> Checked<()> {
+    let counted: Vec<String> = given
+        .iter()
+        .map(|number| format!("{number} ({})", counts[*number]))
+        .collect();
+    println!("{name} gave {}", counted.join(", "));
+    for (number, times) in counts.iter().enumerate() {
+        if given.contains(&number) != (*times > 0) {
+            let why = format!("{name} gave number {number} {times} times");
+            return Err(Failure::wrong(why));
         }
     }
     Ok(())

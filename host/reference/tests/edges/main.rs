@@ -5,6 +5,7 @@ mod calls;
 mod phases;
 mod polling_on;
 mod rtu;
+mod several;
 mod text;
 
 /// What fills a reply buffer before a call, to see what stays.

@@ -3,8 +3,19 @@
 use crate::*;
 use reference::modbus::with_crc;
 
+/// Each writable item: register, number, low and high.
+pub const WRITABLE: [(u8, usize, i16, i16); 7] = [
+    (0x08, 12, 0, 999),
+    (0x0B, 6, -1999, 9999),
+    (0x0C, 7, -1999, 9999),
+    (0x0E, 8, -1999, 9999),
+    (0x10, 9, -1000, 1000),
+    (0x11, 10, 500, 1500),
+    (0x12, 11, 0, 100),
+];
+
 /// The number and the reply without its CRC, whose rightness is looked at here.
-fn ask(link: &mut Link, body: &[u8]) -> (u32, Vec<u8>) {
+pub fn ask(link: &mut Link, body: &[u8]) -> (u32, Vec<u8>) {
     let (number, reply) = link.rtu(&with_crc(body.to_vec()));
     let length = reply.len().saturating_sub(2);
     let without = reply[..length].to_vec();
@@ -15,7 +26,7 @@ fn ask(link: &mut Link, body: &[u8]) -> (u32, Vec<u8>) {
 }
 
 /// A body that is answered with an exception and changes nothing.
-fn exception(body: &[u8], code: u8) {
+pub fn exception(body: &[u8], code: u8) {
     let mut link = Link::start();
     let expected = vec![1, body[1] | 0x80, code];
     assert_eq!(
@@ -46,7 +57,7 @@ fn the_length_is_4_to_256() {
     exception(&[1, 0x07], 1);
     let mut body = vec![0; 254];
     body[0] = 1;
-    body[1] = 0x10;
+    body[1] = 0x16;
     exception(&body, 1);
 }
 
@@ -78,9 +89,9 @@ fn another_address_is_23_before_the_function() {
 }
 
 #[test]
-fn functions_but_three_are_31_whatever_their_length() {
+fn functions_but_four_are_31_whatever_their_length() {
     for function in 0..=255 {
-        if ![0x03, 0x06, 0x08].contains(&function) {
+        if ![0x03, 0x06, 0x08, 0x10].contains(&function) {
             exception(&[1, function], 1);
             exception(&[1, function, 0, 0, 0, 1], 1);
         }
@@ -94,7 +105,7 @@ fn functions_but_three_are_31_whatever_their_length() {
 }
 
 #[test]
-fn the_three_functions_have_frames_of_8_bytes() {
+fn three_of_the_functions_have_frames_of_8_bytes() {
     for function in [0x03, 0x06, 0x08] {
         for length in [2, 3, 4, 5, 7, 8, 254] {
             // Addresses past the map and wrong test codes do not matter yet.
@@ -168,8 +179,7 @@ fn a_read_of_the_whole_map() {
 #[test]
 fn a_write_needs_a_writable_item() {
     for register in 0..=0x20 {
-        let writable = [0x08, 0x0B, 0x0C, 0x0E, 0x10, 0x11, 0x12].contains(&register);
-        if !writable {
+        if WRITABLE.iter().all(|row| row.0 != register) {
             exception(&[1, 6, 0, register, 0, 0], 2);
             // Before the value's range.
             exception(&[1, 6, 0, register, 0x7F, 0xFF], 2);
@@ -181,25 +191,17 @@ fn a_write_needs_a_writable_item() {
 
 #[test]
 fn a_write_needs_a_value_in_range() {
-    for (register, item, low, high) in [
-        (0x08, 12, 0, 999),
-        (0x0B, 6, -1999, 9999),
-        (0x0C, 7, -1999, 9999),
-        (0x0E, 8, -1999, 9999),
-        (0x10, 9, -1000, 1000),
-        (0x11, 10, 500, 1500),
-        (0x12, 11, 0, 100),
-    ] {
+    for (register, item, low, high) in WRITABLE {
         for value in [low, high] {
             let mut link = Link::start();
-            let bytes = (value as i16).to_be_bytes();
+            let bytes = value.to_be_bytes();
             echo(&mut link, &[1, 6, 0, register, bytes[0], bytes[1]]);
             let mut expected = START;
-            expected[item - 1] = value;
+            expected[item - 1] = i32::from(value);
             assert_eq!(link.table, expected);
         }
-        for value in [low - 1, high + 1, -32_768, 32_767] {
-            let bytes = (value as i16).to_be_bytes();
+        for value in [low - 1, high + 1, i16::MIN, i16::MAX] {
+            let bytes = value.to_be_bytes();
             exception(&[1, 6, 0, register, bytes[0], bytes[1]], 3);
         }
     }

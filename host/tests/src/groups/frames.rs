@@ -1,6 +1,7 @@
 //! Right frames for this device: every length, every word in every place, every value.
 
 use super::requests::{handed, handed_with, words};
+use super::several;
 use crate::compare::Compare;
 use crate::failure::Checked;
 use crate::random::Random;
@@ -12,20 +13,22 @@ const READ: u8 = 0x03;
 const WRITE: u8 = 0x06;
 const LOOPBACK: u8 = 0x08;
 
-/// The three functions, those beside them, some more of the standard's, and with the top bit set.
-const FUNCTIONS: [u8; 20] = [
-    0x00, 0x01, 0x02, READ, 0x04, 0x05, WRITE, 0x07, LOOPBACK, 0x09, 0x0F, 0x10, 0x16, 0x17, 0x2B,
-    0x7F, 0x80, 0x83, 0x86, 0xFF,
+/// The four functions, those beside them, some more of the standard's, and with the top bit set.
+const FUNCTIONS: [u8; 22] = [
+    0x00, 0x01, 0x02, READ, 0x04, 0x05, WRITE, 0x07, LOOPBACK, 0x09, 0x0F, 0x10, 0x11, 0x16, 0x17,
+    0x2B, 0x7F, 0x80, 0x83, 0x86, 0x90, 0xFF,
 ];
 
-/// What stands in front of zeros, as far as a frame's length has room: nothing, or words that make a
-/// good request of 8 bytes.
-const FRONTS: [&[u8]; 5] = [
+/// What stands in front of zeros, as far as a frame's length has room: nothing, words that make a
+/// good request of 8 bytes, or good writes of one register and of three.
+const FRONTS: [&[u8]; 7] = [
     &[],
     &[0, 0, 0, 1],
     &[0, 0, 0, 19],
     &[0, 0x12, 0, 100],
     &[0, 0, 0x1F, 0x34],
+    &[0, 0x12, 0, 1, 2, 0, 100],
+    &[0, 0x10, 0, 3, 6, 0xFF, 0x6A, 0x03, 0xE8, 0, 100],
 ];
 
 /// Every length that a frame can have, and those beside, in every function.
@@ -43,8 +46,8 @@ pub fn lengths(compare: &mut Compare, random: &mut Random) -> Checked<()> {
     Ok(())
 }
 
-/// Every word where a request has its start, its quantity, its register, its test code and its test
-/// data, all else being right.
+/// Every word where a request has its start, its quantity, its register, its test code, its test data
+/// and one of several values, all else being right.
 pub fn every_word(compare: &mut Compare, random: &mut Random) -> Checked<()> {
     for word in 0..=u16::MAX {
         handed(compare, random, 1, words(1, READ, word, 1))?;
@@ -52,6 +55,13 @@ pub fn every_word(compare: &mut Compare, random: &mut Random) -> Checked<()> {
         handed(compare, random, 1, words(1, WRITE, word, 0))?;
         handed(compare, random, 1, words(1, LOOPBACK, word, 0))?;
         handed(compare, random, 1, words(1, LOOPBACK, 0, word))?;
+        handed(compare, random, 1, several::right(1, word, &[0]))?;
+        handed(compare, random, 1, several::request(1, 8, word, 2, &[0, 0]))?;
+        for (start, quantity) in [(0x0B, 2), (0x10, 3)] {
+            let mut values = several::good(random, start, quantity);
+            values[random.below(quantity)] = word;
+            handed(compare, random, 1, several::right(1, start, &values))?;
+        }
     }
     Ok(())
 }

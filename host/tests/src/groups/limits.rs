@@ -1,3 +1,4 @@
+use super::several;
 use crate::call::{Call, Function};
 use crate::compare::Compare;
 use crate::failure::Checked;
@@ -14,6 +15,12 @@ const WITH_TABLE: [Function; 3] = [Function::Byte, Function::Rtu, Function::Put]
 /// A call with nothing outside its limits.
 fn good(random: &mut Random, function: Function) -> Call {
     let phase = random.below(usize::from(PHASES)) as u8;
+    // A frame that leaves the table, or one that writes.
+    let input = if random.one_in(2) {
+        vec![1, 8, 0, 0, 0x1F, 0x34, 0xE9, 0xEC]
+    } else {
+        several::accepted(random, 1)
+    };
     Call {
         address: 1,
         byte: random.byte(),
@@ -22,7 +29,7 @@ fn good(random: &mut Random, function: Function) -> Call {
         state: good_state(random, phase),
         table: good_table(random),
         reply: pattern(random, 256),
-        input: vec![1, 8, 0, 0, 0x1F, 0x34, 0xE9, 0xEC],
+        input,
         ..Call::new(function)
     }
 }

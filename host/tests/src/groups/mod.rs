@@ -5,6 +5,7 @@ mod damage;
 mod frames;
 mod idle;
 mod limits;
+mod modbus_sessions;
 mod noise;
 mod number_text;
 mod order;
@@ -14,6 +15,7 @@ mod polls;
 mod put;
 mod requests;
 mod sessions;
+mod several;
 mod start;
 
 use crate::compare::Compare;
@@ -44,7 +46,13 @@ const GROUPS: &[(&str, Calls)] = &[
     ("item numbers with other bits", put::item_numbers),
     ("silence, and the turn of the time", idle::silence),
     ("right frames of every length", frames::lengths),
-    ("the three Modbus functions", requests::functions),
+    ("reads, single writes and loopbacks", requests::functions),
+    ("spans of several registers", several::spans),
+    ("counts of several registers", several::counts),
+    ("lengths of several registers", several::lengths),
+    ("edges of several values", several::edges),
+    ("several registers into bad tables", several::lent),
+    ("several registers at every address", several::addresses),
     ("frames of every kind and length", requests::every),
     ("edges of number text written", number_text::edges_written),
     ("characters of number text read", number_text::characters),
@@ -58,8 +66,10 @@ const GROUPS: &[(&str, Calls)] = &[
     ("values put by the firmware", put::any),
     ("runs over the list by ACK and NAK", polls::runs),
     ("any text with any BCC", blocks::any),
+    ("any write of several registers", several::any),
     ("sessions on the RKC line", sessions::whole),
     ("sessions on a bad line", sessions::damaged),
+    ("sessions on the Modbus line", modbus_sessions::whole),
     ("faults of the caller, together", limits::together),
     ("noise in every argument", noise::anything),
     ("noise with a good table", noise::well_lent),

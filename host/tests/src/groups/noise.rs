@@ -1,3 +1,4 @@
+use super::several;
 use crate::call::{Call, Function};
 use crate::compare::Compare;
 use crate::failure::Checked;
@@ -62,8 +63,12 @@ pub fn well_lent(compare: &mut Compare, random: &mut Random) -> Checked<()> {
     Ok(())
 }
 
-/// Any bytes, mostly as few as a request has and with a right CRC, half of these for this device.
+/// A write of several registers; or any bytes, mostly as few as the other requests have and with a
+/// right CRC, half of these for this device.
 fn frame(random: &mut Random, address: u8) -> Vec<u8> {
+    if random.one_in(4) {
+        return several::any_request(random, address);
+    }
     let length = match random.below(4) {
         0 => random.below(260),
         1 => 2 + random.below(8),

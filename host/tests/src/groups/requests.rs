@@ -119,24 +119,26 @@ fn long(random: &mut Random, length: usize, function: u8) -> Vec<u8> {
     with_crc(body)
 }
 
-/// A good request after something has happened to it, half of the time before its CRC was made.
+/// A good request with something that has happened to it.
 fn mutated(random: &mut Random) -> Vec<u8> {
     let function = random.pick(&[0x03, 0x06, 0x08]);
-    let mut frame = words(
-        1,
-        function,
-        random.below(20) as u16,
-        random.below(20) as u16,
-    );
+    let start = random.below(20) as u16;
+    let good = words(1, function, start, random.below(20) as u16);
+    spoiled(random, good)
+}
+
+/// A frame after something has happened to it, half of the time before its CRC was made.
+pub fn spoiled(random: &mut Random, mut frame: Vec<u8>) -> Vec<u8> {
+    let length = frame.len();
     match random.below(10) {
-        0 => frame.swap(6, 7),
-        1 => frame.truncate(random.below(8)),
+        0 => frame.swap(length - 2, length - 1),
+        1 => frame.truncate(random.below(length)),
         2 => frame.extend(random.bytes(3)),
-        3 => frame = random.some_bytes(12),
-        4 => frame[random.below(8)] = random.byte(),
+        3 => frame = random.some_bytes(length + 4),
+        4 => frame[random.below(length)] = random.byte(),
         _ => {
-            let mut body = frame[..6].to_vec();
-            body[random.below(6)] = random.byte();
+            let mut body = frame[..length - 2].to_vec();
+            body[random.below(length - 2)] = random.byte();
             frame = with_crc(body);
         }
     }

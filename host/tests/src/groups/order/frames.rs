@@ -50,11 +50,13 @@ fn changed(call: &mut Call, change: impl Fn(&mut Vec<u8>)) {
 }
 
 /// What a request meets behind 23, as much as possible of what comes later being wrong too.
-const REQUESTS: [(&[u8], u32); 29] = [
+const REQUESTS: [(&[u8], u32); 31] = [
     (&[0x00], 31),
     (&[0x04, 0, 0, 0, 1], 31),
-    (&[0x10, 0xFF, 0xFF, 0, 0, 0], 31),
+    (&[0x0F, 0xFF, 0xFF, 0, 0, 0], 31),
+    (&[0x16, 0xFF, 0xFF, 0, 0, 0], 31),
     (&[0x83, 0, 0, 0, 0], 31),
+    (&[0x90, 0, 0x12, 0, 1, 2, 0, 100], 31),
     (&[0xFF, 0xFF, 0xFF, 0xFF], 31),
     (&[0x03], 33),
     (&[0x03, 0xFF, 0xFF, 0], 33),
@@ -82,10 +84,47 @@ const REQUESTS: [(&[u8], u32); 29] = [
     (&[0x08, 0, 0, 0x1F, 0x34], 0),
 ];
 
+/// The same for 10H. First the shape is wrong: too short for quantity and count, no register, far
+/// too many, a count or a length that is not the quantity's. Then a register, then a value.
+const SEVERAL: [(&[u8], u32); 29] = [
+    (&[0x10], 33),
+    (&[0x10, 0xFF, 0xFF, 0], 33),
+    (&[0x10, 0xFF, 0xFF, 0, 1], 33),
+    (&[0x10, 0xFF, 0xFF, 0, 1, 2], 33),
+    (&[0x10, 0xFF, 0xFF, 0, 0, 0], 33),
+    (&[0x10, 0xFF, 0xFF, 0, 0, 2, 0x7F, 0xFF], 33),
+    (&[0x10, 0xFF, 0xFF, 0, 124, 248, 0x7F, 0xFF], 33),
+    (&[0x10, 0xFF, 0xFF, 0, 129, 2, 0x7F, 0xFF], 33),
+    (&[0x10, 0xFF, 0xFF, 1, 1, 2, 0x7F, 0xFF], 33),
+    (&[0x10, 0xFF, 0xFF, 0, 1, 0, 0x7F, 0xFF], 33),
+    (&[0x10, 0xFF, 0xFF, 0, 1, 1, 0x7F], 33),
+    (&[0x10, 0xFF, 0xFF, 0, 1, 3, 0x7F, 0xFF, 0], 33),
+    (&[0x10, 0xFF, 0xFF, 0, 1, 4, 0x7F, 0xFF], 33),
+    (&[0x10, 0xFF, 0xFF, 0, 2, 2, 0x7F, 0xFF], 33),
+    (&[0x10, 0xFF, 0xFF, 0, 1, 2, 0x7F], 33),
+    (&[0x10, 0xFF, 0xFF, 0, 1, 2, 0x7F, 0xFF, 0], 33),
+    (&[0x10, 0xFF, 0xFF, 0, 1, 2, 0x7F, 0xFF], 32),
+    (&[0x10, 0xFF, 0xFF, 0, 2, 4, 0x7F, 0xFF, 0x7F, 0xFF], 32),
+    (&[0x10, 0, 0, 0, 1, 2, 0x80, 0], 32),
+    (
+        &[0x10, 0, 4, 0, 5, 10, 1, 0, 0, 0, 0, 0, 0, 0, 0x7F, 0xFF],
+        32,
+    ),
+    (&[0x10, 0, 0x0B, 0, 3, 6, 0x7F, 0xFF, 0, 0, 0, 0], 32),
+    (&[0x10, 0, 0x0C, 0, 3, 6, 0, 0, 0, 0, 0x7F, 0xFF], 32),
+    (&[0x10, 0, 0x12, 0, 2, 4, 0, 101, 0, 0], 32),
+    (&[0x10, 0, 0x12, 0, 1, 2, 0, 101], 33),
+    (&[0x10, 0, 0x10, 0, 3, 6, 3, 0xE9, 3, 0xE8, 0, 100], 33),
+    (&[0x10, 0, 0x10, 0, 3, 6, 3, 0xE8, 1, 0xF3, 0, 100], 33),
+    (&[0x10, 0, 0x10, 0, 3, 6, 3, 0xE8, 3, 0xE8, 0, 101], 33),
+    (&[0x10, 0, 0x12, 0, 1, 2, 0, 100], 0),
+    (&[0x10, 0, 0x10, 0, 3, 6, 0xFF, 0x6A, 3, 0xE8, 0, 100], 0),
+];
+
 /// Every set of faults up to 23, on whatever else a request can be refused for.
 pub fn faults(compare: &mut Compare, random: &mut Random) -> Checked<()> {
     for _ in 0..10 {
-        for (request, number) in REQUESTS {
+        for (request, number) in REQUESTS.into_iter().chain(SEVERAL) {
             let address = random.between(1, 99) as u8;
             let mut body = vec![address];
             body.extend(request);
