@@ -50,9 +50,14 @@ class Mbpoll:
         return failure or [int(value) for value in found]
 
     def write(self, register, value):
-        words = ["-t", HOLDING_REGISTER, "-r", str(register)]
-        failure, output = self.ask(words, values=[str(value)])
-        return failure or (WRITTEN if "Written 1 references." in output else output)
+        return self.write_together(register, [value])
+
+    def write_together(self, start, values):
+        """mbpoll takes 06H for one value and 10H for several."""
+        words = ["-t", HOLDING_REGISTER, "-r", str(start)]
+        failure, output = self.ask(words, values=map(str, values))
+        done = f"Written {len(values)} references."
+        return failure or (WRITTEN if done in output else output)
 
     def own_checks(self, checks):
         got = self.read(0, 1, kind=INPUT_REGISTER)

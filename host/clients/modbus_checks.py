@@ -1,10 +1,12 @@
 """What every Modbus client must see.
 
 A client has `NAME`, the `ADDRESS` and `BAUD` that it uses, `read` (a list of registers), `write`
-(`WRITTEN`) and `close`. Each answers `exception(code)` where the panel refuses and `SILENCE` where
-it does not answer. `own_checks` tries what only that client can ask for."""
+and `write_together` (`WRITTEN`) and `close`. Each answers `exception(code)` where the panel refuses
+and `SILENCE` where it does not answer. `own_checks` tries what only that client can ask for."""
 
 import contextlib
+import itertools
+from functools import partial
 
 import panel
 from checks import Simulator
@@ -16,9 +18,34 @@ ILLEGAL_FUNCTION = 1
 ILLEGAL_ADDRESS = 2
 ILLEGAL_VALUE = 3
 
+# Spans, as start and quantity, of which a register is not to be written.
+SPOILT = (
+    (0x000C, 3),  # unlisted, between A1 and A2
+    (0x000E, 3),  # unlisted, between A2 and PB
+    (0x000A, 2),  # unlisted, before S1
+    (0x0008, 2),  # unlisted, behind TM
+    (0x0003, 2),  # read-only, both
+    (0x0004, 5),  # read-only, the first, with TM as the last
+    (0x0000, panel.MAP_LENGTH),  # the whole map
+    (0x0012, 2),  # past the map, behind F1
+    (0x0010, 4),  # past the map, behind three that may be written
+    (0xFFFF, 2),  # past FFFFH
+    (0x0010, 123),  # as many as a request can have
+)
+
+# Outside every item's range.
+TOO_HIGH = 0x7FFF
+
 
 def exception(code):
     return f"exception {code}"
+
+
+def refuses(checks, client, name, code, write):
+    """A write is refused, and all registers stay as they are."""
+    before = client.read(0, panel.MAP_LENGTH)
+    got = (write(), client.read(0, panel.MAP_LENGTH))
+    checks.same(name, got, (exception(code), before))
 
 
 def writes(checks, client):
@@ -33,6 +60,31 @@ def writes(checks, client):
             checks.same(f"{item.name} refuses {value}", got, exception(ILLEGAL_VALUE))
         got = client.read(item.register, 1)
         checks.same(f"{item.name} still has {item.high}", got, [panel.register_of(item.high)])
+
+
+def together(checks, client):
+    """Neighbours in one request: every choice of ends of their ranges, and refused with one of
+    them outside."""
+    for rows in panel.NEIGHBOURS:
+        start, names = rows[0].register, " ".join(row.name for row in rows)
+        for values in itertools.product(*((row.low, row.high) for row in rows)):
+            registers = panel.registers_of(values)
+            got = (client.write_together(start, registers), client.read(start, len(rows)))
+            checks.same(f"{names} take {values}", got, (WRITTEN, registers))
+        for values in panel.one_outside(rows):
+            write = partial(client.write_together, start, panel.registers_of(values))
+            refuses(checks, client, f"{names} refuse {values}", ILLEGAL_VALUE, write)
+
+
+def spoilt(checks, client):
+    """One register that is not to be written spoils a request, whatever its values are."""
+    lowest = {row.register: panel.register_of(row.low) for row in panel.WRITABLE}
+    for start, quantity in SPOILT:
+        allowed = [lowest.get(register, 1) for register in range(start, start + quantity)]
+        for values, kind in ((allowed, "allowed"), ([TOO_HIGH] * quantity, "too high")):
+            write = partial(client.write_together, start, values)
+            name = f"{quantity} from {start:04X}H refuse values that are {kind}"
+            refuses(checks, client, name, ILLEGAL_ADDRESS, write)
 
 
 def lamps(checks, client):
@@ -64,6 +116,8 @@ def run(checks, command, client_of):
             got = client.read(0, panel.MAP_LENGTH)
             checks.same("all registers at the start", got, panel.start_registers())
             writes(checks, client)
+            together(checks, client)
+            spoilt(checks, client)
             lamps(checks, client)
             refusals(checks, client)
             client.own_checks(checks)

@@ -36,9 +36,20 @@ def item(name):
     return next(row for row in ITEMS if row.name == name)
 
 
+# Writable items whose registers follow each other.
+NEIGHBOURS = (
+    (item("S1"), item("A1")),
+    (item("PB"), item("PR"), item("F1")),
+)
+
+
 def register_of(value):
     """A value as a register: 16-bit two's complement."""
     return value % 0x10000
+
+
+def registers_of(values):
+    return [register_of(value) for value in values]
 
 
 def start_registers():
@@ -52,6 +63,15 @@ def start_registers():
 def outside(row):
     """The nearest values below and above an item's range."""
     return (row.low - 1, row.high + 1)
+
+
+def one_outside(rows):
+    """Values for items of which one is just outside its range; the others are at their lowest."""
+    for place, row in enumerate(rows):
+        for value in outside(row):
+            values = [other.low for other in rows]
+            values[place] = value
+            yield tuple(values)
 
 
 def text_of(row, value):
