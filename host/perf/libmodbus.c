@@ -2,7 +2,7 @@
  * libmodbus LIBRARY CASE, the first being the path of libmodbus.so.5.
  *
  * Counted are its integrity check of a frame that has come and its reply, which goes into a pipe.
- * It prints where the counted functions stand, and the reply. */
+ * It prints where the counted functions stand, the reply, and how many bytes it handed over. */
 #include "frames.h"
 
 /* Of the C library. Declared here, since a cross compiler may come without its headers. */
@@ -86,7 +86,7 @@ static void serve(struct request *request) {
     printf("gave 0:");
     for (long i = 0; i < n; i++)
         printf(" %02X", sent[i]);
-    printf("\n");
+    printf("\nbytes %u\n", (unsigned)request->n);
 }
 
 int main(int argc, char **argv) {

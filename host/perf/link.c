@@ -2,7 +2,7 @@
  * counted: link CASE. Whatever has these functions can be linked to it.
  *
  * It prints where the counted functions stand, for each call that gave something the number and the
- * reply, and how many bytes of the RKC line it handed over. */
+ * reply, and how many bytes it handed over. */
 #include "frames.h"
 #include "vennebruis.h"
 
@@ -28,6 +28,7 @@ static void show(uint32_t result) {
 }
 
 static void rtu(const struct request *request) {
+    handed_over += (unsigned)request->n;
     show(vb_rtu(table, VB_TABLE_ENTRIES, reply, sizeof reply, ADDRESS, request->bytes, request->n));
 }
 

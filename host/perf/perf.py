@@ -15,14 +15,16 @@ KNOWN = 47
 # What the longer damaged request has more than the shorter one.
 MORE_BYTES = 256 - 8
 
-# The bytes of a request that its CRC is of.
-REQUEST_BYTES = 6
+# The bytes of a CRC, which are not among those that it is of.
+CRC_BYTES = 2
 
 ROWS = {
     "read": "read of 19 registers (03H)",
     "read, CRC apart": "the same, both CRCs apart",
     "write": "write of one register (06H)",
     "write, CRC apart": "the same, both CRCs apart",
+    "write-three": "write of three registers (10H)",
+    "write-three, CRC apart": "the same, both CRCs apart",
     "loopback": "loopback (08H)",
     "loopback, CRC apart": "the same, both CRCs apart",
     "CRC": "CRC, per byte",
@@ -34,10 +36,18 @@ ROWS = {
     "stack": "stack of the deepest call, bytes",
 }
 
+# The requests that libmodbus knows, too.
+SHARED = ["read", "write", "write-three"]
+
 
 def replies(printed):
     """The numbers and replies that came back."""
     return re.findall(r"^gave (.*)$", printed, re.MULTILINE)
+
+
+def handed_over(printed):
+    """The number of bytes that the calls were handed."""
+    return int(re.search(r"^bytes (\d+)$", printed, re.MULTILINE)[1])
 
 
 def modbus(program, functions, cases):
@@ -48,9 +58,9 @@ def modbus(program, functions, cases):
     for case in cases:
         figures[case], printed = count([*program, case], functions)
         gave[case] = replies(printed)
-        reply_bytes = len(gave[case][0].split()) - 3  # without the number and the CRC itself
-        crc = figures["CRC"] * (REQUEST_BYTES + reply_bytes)
-        figures[f"{case}, CRC apart"] = figures[case] - crc
+        reply_bytes = len(gave[case][0].split()) - 1  # without the number
+        checked = handed_over(printed) + reply_bytes - 2 * CRC_BYTES
+        figures[f"{case}, CRC apart"] = figures[case] - figures["CRC"] * checked
     return figures, gave
 
 
@@ -59,7 +69,7 @@ def rkc(program):
     totals, lengths, gave = {}, {}, {}
     for case in ("poll", "select"):
         totals[case], printed = count([*program, case], ["vb_byte"])
-        lengths[case] = int(re.search(r"^bytes (\d+)$", printed, re.MULTILINE)[1])
+        lengths[case] = handed_over(printed)
         gave[case] = replies(printed)
     figures = {case: totals[case] / lengths[case] for case in totals}
     figures["session"] = sum(totals.values()) / sum(lengths.values())
@@ -68,14 +78,14 @@ def rkc(program):
 
 def link(program, file):
     """All figures of an implementation with the C functions of the link."""
-    figures, gave = modbus(program, ["vb_rtu"], ["read", "write", "loopback"])
+    figures, gave = modbus(program, ["vb_rtu"], [*SHARED, "loopback"])
     more, gave_more = rkc(program)
     return figures | more | sizes.both(file), gave | gave_more
 
 
 def libmodbus(program):
     """Those of libmodbus, which knows neither the loopback nor the RKC line."""
-    figures, gave = modbus(program, ["libmodbus_check", "modbus_reply"], ["read", "write"])
+    figures, gave = modbus(program, ["libmodbus_check", "modbus_reply"], SHARED)
     return figures | sizes.both(kit.libmodbus()), gave
 
 
