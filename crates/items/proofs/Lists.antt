@@ -12,7 +12,7 @@ use borrow.Author.Tests.{eqb-true, eqb-false, ltb-true, ltb-false, lt-ltb}
 use lib.Dec.{eqb, ltb}
 use lib.ListN.{length, getD, drop, List·getD-eq-default, List·getD-map}
 use lib.Seq.{drop-cons}
-use Rattle.numbers.proofs.Tests.{both, chosen}
+use Rattle.numbers.proofs.Tests.{contrary, both, chosen}
 use Rattle.items.specs.declared.Found.the-variants.{At}
 use Rattle.items.specs.ItemList.{Item, items, mapSize, itemList, noItem, itemAt, lines, lineOf, Sizes, firstFrom}
 
@@ -33,6 +33,14 @@ one-line-more (x ∷ xs) (suc i) d = one-line-more xs i d
 pub line-past : (i : ℕ) → items ≤ i → itemAt i ≡ noItem
 line-past i h = List·getD-eq-default itemList noItem h
 
+-- so what is writable is in the list
+pub writable-listed : (i : ℕ) → itemAt i .writable ≡ true → i < items
+writable-listed i w = by (ltb i items) refl
+  where
+    by : (b : Bool) → ltb i items ≡ b → i < items
+    by true e = ltb-true i items e
+    by false e = contrary (sym w ∙ ap (λ (x : Item). x .writable) (line-past i (ltb-false i items e)))
+
 -- a place has a line
 pub line-within : (i : ℕ) → lineOf i < length lines
 line-within i =
@@ -48,9 +56,13 @@ column f i d = by (ltb i items) refl
         read-inside (map f lines) i d (f noItem) (omega arith) ∙ List·getD-map f lines i noItem ∙ ap f (one-line-more itemList i noItem)
     by false e = ap f (sym (line-past i (ltb-false i items e)))
 
--- inside the list it has that at the place itself
-pub column-inside : {A : Type 0} (f : Item → A) (i : ℕ) (d : A) → i < items → getD (map f lines) i d ≡ f (itemAt i)
-column-inside f i d h = rw (lt-ltb i items h) at (column f i d)
+-- inside the list, and right behind it, it has that at the place itself
+pub column-at : {A : Type 0} (f : Item → A) (i : ℕ) (d : A) → i ≤ items → getD (map f lines) i d ≡ f (itemAt i)
+column-at f i d h = rw line-itself at (column f i d)
+  where
+    line-itself : lineOf i ≡ i
+    line-itself =
+        chosen (λ (k : ℕ). k ≡ i) (ltb i items) (λ e. refl) (λ e. let past = ltb-false i items e in omega arith)
 
 -- what a function says of each number below n, in their order
 abbrev pub values : {A : Type 0} → (ℕ → A) → ℕ → List A

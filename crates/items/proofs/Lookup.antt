@@ -5,7 +5,7 @@ use mathlib.Core.Bool.{Bool, true, _&&_, false, cond}
 use mathlib.Core.List.{List, [], _∷_}
 use Prim.Native.Nat.{ℕ, suc, _-_, _<_, _≤_, _+_}
 use native.Mathlib.Omega.{arith}
-use borrow.Author.Tests.{ltb-true, ne-eqb}
+use borrow.Author.Tests.{eqb-true, ltb-true, ne-eqb}
 use lib.Dec.{ltb}
 use lib.ListN.{getD, length}
 use Rattle.numbers.proofs.Tests.{both}
@@ -61,7 +61,7 @@ found-place a b j e =
 
 -- ---- the place of the item that has a register
 
--- it is past the list at most, and tells what was found
+-- it is past the list at most, and there for every register past the map; and it tells what was found
 module _ (r : ℕ) where
   pub place-small : placeOf r ≤ items
   unfolding placeOf foundByRegister
@@ -71,6 +71,10 @@ module _ (r : ℕ) where
       by (At j) e = let inside = first-passes (registered r) itemList 0 j e .1 in omega arith
       by Nothing e = omega arith
 
+  pub place-past : mapSize ≤ r → placeOf r ≡ items
+  unfolding placeOf
+  place-past h = ap placeFound (nothing-past r h)
+
   pub item-has : placeOf r < items → At (placeOf r) ≡ foundByRegister r
   unfolding placeOf
   item-has = by (foundByRegister r)
@@ -78,6 +82,14 @@ module _ (r : ℕ) where
       by : (f : Found) → placeFound f < items → At (placeFound f) ≡ f
       by (At j) h = refl
       by Nothing h = absurd (omega arith)
+
+  -- the item there has the register
+  pub place-registered : placeOf r < items → itemAt (placeOf r) .register ≡ r
+  unfolding foundByRegister
+  place-registered h =
+      let z : placeOf r - 0 ≡ placeOf r = omega arith in
+      let passes = first-passes (registered r) itemList 0 (placeOf r) (sym (item-has h)) .2 in
+      eqb-true _ _ (sym (ap (λ (k : ℕ). registered r (itemAt k)) z) ∙ passes)
 
   pub none-has : items ≤ placeOf r → Nothing ≡ foundByRegister r
   unfolding placeOf foundByRegister
@@ -93,4 +105,4 @@ held-inside r h = values-at placeOf (suc mapSize) r 0 (omega arith)
 
 pub held-past : (r : ℕ) → mapSize ≤ r → getD (values placeOf (suc mapSize)) mapSize 0 ≡ placeOf r
 unfolding placeOf foundByRegister
-held-past r h = sym (ap placeFound (nothing-past r h))
+held-past r h = sym (place-past r h)

@@ -23,7 +23,7 @@ const FIRST: [u8; LINES] = *b"MAABESAAPPFT\0";
 
 const SECOND: [u8; LINES] = *b"1AB1R112BR1M\0";
 
-const WRITABLE: [bool; LINES] = [
+pub const WRITABLE: [bool; LINES] = [
     false, // M1
     false, // AA
     false, // AB
@@ -65,7 +65,7 @@ pub const START: [i32; LINES] = [0, 0, 0, 0, 0, 0, 500, 500, 0, 1000, 0, 0, 0];
 const NO_ITEM: u8 = ITEMS as u8;
 
 // The place of the item that has a register, for each register of the map, and last for those past it.
-const PLACE_AT: [u8; MAP_SIZE + 1] = [
+pub const PLACE_AT: [u8; MAP_SIZE + 1] = [
     0, // 0000H
     1, // 0001H
     2, // 0002H

@@ -14,8 +14,8 @@ use Rattle.numbers.proofs.Order.{is-refused, is-done}
 use Rattle.modbus.specs.declared.Answered.{Answered}
 use Rattle.modbus.specs.Outcome.{Outcome, otherAddress, unknownFunction, silent, exceptionReply, exception}
 use Rattle.modbus.specs.Outcome.{headLength, addressOf, functionOf}
-use Rattle.modbus.specs.Rules.{readRegisters, writeRegister, loopback, ours}
-use Rattle.modbus.specs.Rules.{reading, writing, loopingBack, obeying, acted, actedWithin}
+use Rattle.modbus.specs.Rules.{readRegisters, writeRegister, loopback, writeSeveral, ours}
+use Rattle.modbus.specs.Rules.{reading, writing, loopingBack, writingSeveral, obeying, acted, actedWithin}
 use Rattle.modbus.specs.Promise.{Sends, Gives}
 
 -- ---- a fault, or none
@@ -25,11 +25,11 @@ pub gives-by : {o p : Outcome} → p ≡ o → {r : Answered} {before after : Li
 gives-by e {r} {before} {after} {left} g = subst (λ (o : Outcome). Gives o r before after left) e g
 
 module _ (fault : ℕ) (t : List ℤ) (body : List ℕ) (o : Outcome) {number : ℕ} {r : Answered} {before after : List ℕ} where
-  pub refused : number ≡ fault → (number ≡ none → ⊥) → Sends number (exceptionReply body number) r before after
-      → Gives (unlessMet fault (exception t body) o) r before after t
-  refused e h s =
+  pub refused : {left : List ℤ} → number ≡ fault → (number ≡ none → ⊥) → left ≡ t → Sends number (exceptionReply body number) r before after
+      → Gives (unlessMet fault (exception t body) o) r before after left
+  refused e h l s =
       gives-by (ap (exception t body) e ∙ sym (is-refused fault (exception t body) o (λ z. h (e ∙ z))))
-      (record { sends = s; table = refl })
+      (record { sends = s; table = l })
 
   pub accepted : {left : List ℤ} → number ≡ fault → number ≡ none → Gives o r before after left
       → Gives (unlessMet fault (exception t body) o) r before after left
@@ -50,11 +50,20 @@ module _ (t : List ℤ) (body : List ℕ) where
   unfolding obeying
   obeying-loopback e = rw e
 
-  pub obeying-other : (functionOf body ≡ readRegisters → ⊥) → (functionOf body ≡ writeRegister → ⊥) → (functionOf body ≡ loopback → ⊥)
-      → obeying t body ≡ exception t body unknownFunction
+  pub obeying-several : functionOf body ≡ writeSeveral → obeying t body ≡ writingSeveral t body
   unfolding obeying
-  obeying-other r w l =
-      rw (ne-eqb (functionOf body) readRegisters r, ne-eqb (functionOf body) writeRegister w, ne-eqb (functionOf body) loopback l)
+  obeying-several e = rw e
+
+  pub obeying-other : (functionOf body ≡ readRegisters → ⊥) → (functionOf body ≡ writeRegister → ⊥) → (functionOf body ≡ loopback → ⊥)
+      → (functionOf body ≡ writeSeveral → ⊥) → obeying t body ≡ exception t body unknownFunction
+  unfolding obeying
+  obeying-other r w l s =
+      rw (
+        ne-eqb (functionOf body) readRegisters r,
+        ne-eqb (functionOf body) writeRegister w,
+        ne-eqb (functionOf body) loopback l,
+        ne-eqb (functionOf body) writeSeveral s,
+      )
 
 module _ (t : List ℤ) (address : ℕ) (body : List ℕ) where
   pub acted-ours : ours address body ≡ true → acted t address body ≡ obeying t body

@@ -3,23 +3,28 @@
 -- Assumes nothing.
 use mathlib.Core.Path.{_≡_, refl}
 use mathlib.Core.Logic.{_⊎_, inl}
-use mathlib.Core.Bool.{Bool, true, false}
+use mathlib.Core.Bool.{Bool, true, false, cond}
 use mathlib.Core.List.{List}
 use Prim.Native.Nat.{ℕ, _≤_, _<_}
 use native.Mathlib.Omega.{arith}
+use borrow.Author.Tests.{eqb-true}
 use lib.Dec.{eqb}
 use lib.IntN.{ℤ}
-use lib.ListN.{length}
+use lib.ListN.{length, take, length-take}
 use Rattle.numbers.specs.Numbers.{none, unless, unlessMet}
 use Rattle.numbers.proofs.Tests.{chosen}
 use Rattle.numbers.proofs.Order.{either-way}
 use Rattle.items.specs.ItemList.{itemAt, inRange}
 use Rattle.table.specs.Table.{goodTable, entry}
-use Rattle.table.proofs.Laws.{good-stored, stored-read-only, stored-in-range}
-use Rattle.registers.specs.Faults.{firstWord, secondWord, readFault, writeFault, written, loopbackFault}
-use Rattle.registers.proofs.Faults.{Numbered, read-numbered, write-numbered, loopback-numbered, read-accepted, write-accepted, loopback-accepted}
+use Rattle.registers.specs.Faults.{firstWord, secondWord, readFault, loopbackFault}
+use Rattle.registers.proofs.Faults.{Numbered, read-numbered, loopback-numbered, read-accepted, loopback-accepted}
+use Rattle.writes.specs.Writes.{Write, writable, inside, each, storedAll}
+use Rattle.writes.specs.Requests.{writesFrom, writeFault, valuePlace, severalFault, countPlace, dataPlace}
+use Rattle.writes.proofs.Faults.{request-numbered, Allowed, request-allowed, write-long}
+use Rattle.writes.proofs.Stored.{all-read-only, all-in-range, all-good}
 use Rattle.modbus.specs.Outcome.{Outcome, otherAddress, unknownFunction, functionOf, silent, done, exceptionReply, exception}
-use Rattle.modbus.specs.Rules.{readRegisters, writeRegister, loopback, readReply, reading, writing, loopingBack, obeying, ours, acted}
+use Rattle.modbus.specs.Rules.{readRegisters, writeRegister, loopback, writeSeveral, readReply}
+use Rattle.modbus.specs.Rules.{reading, writing, loopingBack, writingSeveral, obeying, ours, acted}
 use Rattle.modbus.proofs.Stores.{length-registers}
 
 -- ---- by cases
@@ -31,28 +36,51 @@ module _ (P : Outcome → Type 0) (t : List ℤ) (body : List ℕ)
   by-fault fault {o} n = either-way fault (exception t body) o P (λ met. exceptions fault (n met))
 
   -- what holds of every exception and of what each function does holds of every message at our address
-  obeyed : (readFault body ≡ none → P (done (readReply t body) t)) → (writeFault body ≡ none → P (done body (written t body)))
-      → (loopbackFault body ≡ none → P (done body t)) → P (obeying t body)
-  unfolding obeying reading writing loopingBack
-  obeyed r w l =
-      chosen P (eqb (functionOf body) readRegisters) (λ q. by-fault (readFault body) (read-numbered body) r)
-      (λ q. chosen P (eqb (functionOf body) writeRegister) (λ q. by-fault (writeFault body) (write-numbered body) w)
-      (λ q. chosen P (eqb (functionOf body) loopback) (λ q. by-fault (loopbackFault body) (loopback-numbered body) l)
-      (λ q. exceptions unknownFunction (omega arith))))
+  obeyed : (functionOf body ≡ readRegisters → readFault body ≡ none → P (done (readReply t body) t))
+      → (functionOf body ≡ writeRegister → writeFault body ≡ none → P (done body (storedAll t (writesFrom valuePlace body))))
+      → (functionOf body ≡ loopback → loopbackFault body ≡ none → P (done body t))
+      → (functionOf body ≡ writeSeveral → severalFault body ≡ none
+      → P (done (take countPlace body) (storedAll t (writesFrom dataPlace body))))
+      → P (obeying t body)
+  unfolding obeying reading writing loopingBack writingSeveral
+  obeyed r w l s =
+      by-function readRegisters (by-fault (readFault body) (read-numbered body)) r
+      (by-function writeRegister (by-fault (writeFault body) (request-numbered _ _)) w
+      (by-function loopback (by-fault (loopbackFault body) (loopback-numbered body)) l
+      (by-function writeSeveral (by-fault (severalFault body) (request-numbered _ _)) s
+      (exceptions unknownFunction (omega arith)))))
+    where
+      -- what a function does where it is asked for, and else what the others do
+      by-function : (function : ℕ) {o p : Outcome} {F : Type 0} → (F → P o) → (functionOf body ≡ function → F) → P p
+          → P (cond (eqb (functionOf body) function) o p)
+      by-function function does asked others = chosen P (eqb (functionOf body) function) (λ q. does (asked (eqb-true _ _ q))) (λ q. others)
 
 -- what holds of silence too holds of every message
 pub every : (P : Outcome → Type 0) (t : List ℤ) (address : ℕ) (body : List ℕ) → P (silent t otherAddress)
     → ((number : ℕ) → 30 < number → P (exception t body number))
-    → (readFault body ≡ none → P (done (readReply t body) t))
-    → (writeFault body ≡ none → P (done body (written t body)))
-    → (loopbackFault body ≡ none → P (done body t))
+    → (functionOf body ≡ readRegisters → readFault body ≡ none → P (done (readReply t body) t))
+    → (functionOf body ≡ writeRegister → writeFault body ≡ none → P (done body (storedAll t (writesFrom valuePlace body))))
+    → (functionOf body ≡ loopback → loopbackFault body ≡ none → P (done body t))
+    → (functionOf body ≡ writeSeveral → severalFault body ≡ none
+    → P (done (take countPlace body) (storedAll t (writesFrom dataPlace body))))
     → P (acted t address body)
 unfolding acted
-every P t address body s e r w l = by (ours address body)
+every P t address body q e r w l s = by (ours address body)
   where
     by : (b : Bool) → P (unlessMet (unless b otherAddress) (silent t) (obeying t body))
-    by true = obeyed P t body e r w l
-    by false = s
+    by true = obeyed P t body e r w l s
+    by false = q
+
+-- what holds of the table as it came, and after writes that are allowed, holds of the table after every message
+every-table : (Q : List ℤ → Type 0) (t : List ℤ) (address : ℕ) (body : List ℕ) → Q t
+    → ((ws : List Write) → each writable ws ≡ true → each inside ws ≡ true → Q (storedAll t ws))
+    → Q (acted t address body .table)
+every-table Q t address body q w =
+    every (λ (o : Outcome). Q (o .table)) t address body q (λ number h. q) (λ f e. q) (λ f e. by (request-allowed _ _ e)) (λ f e. q)
+    (λ f e. by (request-allowed _ _ e))
+  where
+    by : {right : Bool} {ws : List Write} → Allowed right ws → Q (storedAll t ws)
+    by {ws = ws} a = w ws (a .registers) (a .values)
 
 -- ---- the laws
 
@@ -62,16 +90,18 @@ module _ (t : List ℤ) (address : ℕ) (body : List ℕ) where
   unfolding exceptionReply readReply
   reply-short =
       every (λ (o : Outcome). length (o .reply) ≤ 253) t address body (omega arith) (λ number h. omega arith)
-      (λ q. let r = read-accepted body q in omega (arith, length-registers t (firstWord body) (secondWord body)))
-      (λ q. let w = write-accepted body q in omega arith)
-      (λ q. let l = loopback-accepted body q in omega arith)
+      (λ f q. let r = read-accepted body q in omega (arith, length-registers t (firstWord body) (secondWord body)))
+      (λ f q. let w = write-long body q in omega arith)
+      (λ f q. let l = loopback-accepted body q in omega arith)
+      (λ f q. simp length-take (omega arith))
 
   -- a message that is given a number, 23 or an exception, leaves the table
   pub number-leaves-table : (acted t address body .number ≡ none → ⊥) → acted t address body .table ≡ t
   number-leaves-table =
-      every (λ (o : Outcome). (o .number ≡ none → ⊥) → o .table ≡ t) t address body (λ h. refl) (λ number n h. refl) (λ q h. refl)
-      (λ q h. absurd (h refl))
-      (λ q h. refl)
+      every (λ (o : Outcome). (o .number ≡ none → ⊥) → o .table ≡ t) t address body (λ h. refl) (λ number n h. refl) (λ f q h. refl)
+      (λ f q h. absurd (h refl))
+      (λ f q h. refl)
+      (λ f q h. absurd (h refl))
 
   -- a number that is no exception is given in silence
   pub number-silent : (acted t address body .number ≡ none → ⊥) → acted t address body .number ≤ 30
@@ -79,34 +109,23 @@ module _ (t : List ℤ) (address : ℕ) (body : List ℕ) where
   number-silent =
       every (λ (o : Outcome). (o .number ≡ none → ⊥) → o .number ≤ 30 → o ≡ silent t (o .number)) t address body (λ h k. refl)
       (λ number n h k. absurd (omega arith))
-      (λ q h. absurd (h refl))
-      (λ q h. absurd (h refl))
-      (λ q h. absurd (h refl))
+      (λ f q h. absurd (h refl))
+      (λ f q h. absurd (h refl))
+      (λ f q h. absurd (h refl))
+      (λ f q h. absurd (h refl))
 
   -- no message changes the entry of a read-only item
   pub read-only-stays : (j : ℕ) → itemAt j .writable ≡ false → entry (acted t address body .table) j ≡ entry t j
-  unfolding written
   read-only-stays j r =
-      every (λ (o : Outcome). entry (o .table) j ≡ entry t j) t address body refl (λ number h. refl) (λ q. refl)
-      (λ q. stored-read-only t _ j _ (write-accepted body q .listed) r)
-      (λ q. refl)
+      every-table (λ (s : List ℤ). entry s j ≡ entry t j) t address body refl (λ ws w i. all-read-only t ws j w r)
 
   -- whatever the table, each entry is left as it was or in its range
   pub stays-or-in-range : (j : ℕ)
       → (entry (acted t address body .table) j ≡ entry t j) ⊎ (inRange j (entry (acted t address body .table) j) ≡ true)
-  unfolding written
   stays-or-in-range j =
-      every (λ (o : Outcome). (entry (o .table) j ≡ entry t j) ⊎ (inRange j (entry (o .table) j) ≡ true)) t address body
-      (inl refl)
-      (λ number h. inl refl)
-      (λ q. inl refl)
-      (λ q. stored-in-range t _ j _ (write-accepted body q .ranged))
-      (λ q. inl refl)
+      every-table (λ (s : List ℤ). (entry s j ≡ entry t j) ⊎ (inRange j (entry s j) ≡ true)) t address body (inl refl)
+      (λ ws w i. all-in-range t ws j i)
 
   -- a good table stays good, so every writable entry stays in its range
   pub good-stays : goodTable t ≡ true → goodTable (acted t address body .table) ≡ true
-  unfolding written
-  good-stays g =
-      every (λ (o : Outcome). goodTable (o .table) ≡ true) t address body g (λ number h. g) (λ q. g)
-      (λ q. good-stored t _ _ g (write-accepted body q .ranged))
-      (λ q. g)
+  good-stays g = every-table (λ (s : List ℤ). goodTable s ≡ true) t address body g (λ ws w i. all-good t ws g i)

@@ -1,4 +1,5 @@
 pub mod Stores
 pub mod Acting
 pub mod Laws
+pub mod Writing
 pub mod Single

@@ -1,3 +1,4 @@
 pub mod Outcome
 pub mod Rules
 pub mod Promise
+pub mod Writing

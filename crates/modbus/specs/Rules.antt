@@ -1,14 +1,16 @@
 -- The rules of Modbus for a message body: address, function, data, without the check bytes that a line adds. The faults of each
--- function are in `registers`.
+-- function are in `registers` and, of those that write, in `writes`.
 use Prim.Native.Nat.{ℕ, _*_}
 use mathlib.Core.Bool.{Bool, cond, _&&_}
 use mathlib.Core.List.{List, _∷_}
 use lib.Dec.{eqb, leb}
 use lib.IntN.{ℤ}
-use lib.ListN.{length}
+use lib.ListN.{length, take}
 use Rattle.numbers.specs.Numbers.{unless, unlessMet, shortBuffer, leastBuffer}
 use Rattle.registers.specs.Register.{registersFrom}
-use Rattle.registers.specs.Faults.{firstWord, secondWord, readFault, writeFault, written, loopbackFault}
+use Rattle.registers.specs.Faults.{firstWord, secondWord, readFault, loopbackFault}
+use Rattle.writes.specs.Writes.{storedAll}
+use Rattle.writes.specs.Requests.{writesFrom, writeFault, valuePlace, severalFault, countPlace, dataPlace}
 use Rattle.modbus.specs.Outcome.{Outcome, otherAddress, unknownFunction, silent, done, exception}
 use Rattle.modbus.specs.Outcome.{headLength, addressOf, functionOf}
 
@@ -21,6 +23,9 @@ writeRegister = 0x06
 
 abbrev pub loopback : ℕ
 loopback = 0x08
+
+abbrev pub writeSeveral : ℕ
+writeSeveral = 0x10
 
 -- ---- 03H: a register to start from and a quantity
 
@@ -36,11 +41,18 @@ reading table body = unlessMet (readFault body) (exception table body) (done (re
 
 -- the reply equals the request
 unfoldable pub writing : List ℤ → List ℕ → Outcome
-writing table body = unlessMet (writeFault body) (exception table body) (done body (written table body))
+writing table body = unlessMet (writeFault body) (exception table body) (done body (storedAll table (writesFrom valuePlace body)))
+
+-- ---- 10H: a register to start from, a quantity, a byte count, and the data of the registers
+
+-- the reply repeats start and quantity, all that stands in front of the byte count
+unfoldable pub writingSeveral : List ℤ → List ℕ → Outcome
+writingSeveral table body =
+    unlessMet (severalFault body) (exception table body) (done (take countPlace body) (storedAll table (writesFrom dataPlace body)))
 
 -- ---- 08H: a test code and data
 
--- the reply equals the request here too
+-- the reply equals the request, as of a write of one register
 unfoldable pub loopingBack : List ℤ → List ℕ → Outcome
 loopingBack table body = unlessMet (loopbackFault body) (exception table body) (done body table)
 
@@ -52,7 +64,8 @@ obeying table body =
     cond (eqb (functionOf body) readRegisters) (reading table body)
     (cond (eqb (functionOf body) writeRegister) (writing table body)
     (cond (eqb (functionOf body) loopback) (loopingBack table body)
-    (exception table body unknownFunction)))
+    (cond (eqb (functionOf body) writeSeveral) (writingSeveral table body)
+    (exception table body unknownFunction))))
 
 -- a message that has an address and a function is ours when the address is
 abbrev pub ours : ℕ → List ℕ → Bool

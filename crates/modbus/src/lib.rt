@@ -9,11 +9,12 @@ ghost use Rattle.numbers.specs.Numbers.{none, leastBuffer};
 ghost use Rattle.registers.specs.Register.{registersFrom};
 ghost use Rattle.registers.specs.Faults.{readFault};
 ghost use Rattle.modbus.specs.Outcome.{topBitSet, exceptionReply};
-ghost use Rattle.modbus.specs.Rules.{readReply, reading, writing, loopingBack, obeying, ours, actedWithin};
+ghost use Rattle.modbus.specs.Rules.{readReply, reading, writing, writingSeveral, loopingBack, obeying, ours, actedWithin};
 ghost use Rattle.modbus.specs.Promise.{Ready, Sends, Gives};
 use numbers::LEAST_BUFFER;
 use numbers::NONE;
 use numbers::SHORT_BUFFER;
+use writes::COUNT_PLACE;
 
 // What a call hands back: the number, 0 for none, and the length of the reply.
 pub struct Answered {
@@ -35,6 +36,8 @@ const READ_REGISTERS: u8 = 0x03;
 const WRITE_REGISTER: u8 = 0x06;
 
 const LOOPBACK: u8 = 0x08;
+
+const WRITE_SEVERAL: u8 = 0x10;
 
 // ---- replies
 
@@ -61,7 +64,7 @@ fn exception(reply: &mut [u8], body: &[u8], number: u8) -> Answered
     Answered { number, len: 3 }
 }
 
-// The request again.
+// The request again, or its front.
 fn echo(reply: &mut [u8], body: &[u8]) -> Answered
     requires { ⌜ length (now body) ≤ length (now reply) ⌝ }
     ensures { λ r. ⌜ Sends none (now (body .entry)) r (now (reply .entry)) (now (reply .exit)) ⌝ }
@@ -132,12 +135,26 @@ fn write(table: &mut [i32], reply: &mut [u8], body: &[u8]) -> Answered
     ensures { λ r. ⌜ Gives (writing (now (table .entry)) (now (body .entry)))
         r (now (reply .entry)) (now (reply .exit)) (now (table .exit)) ⌝ }
 {
-    let fault = registers::write_fault(body);
+    let fault = writes::write_one(table, body);
     if fault != NONE {
         return exception(reply, body, fault);
     }
-    registers::store_value(table, body);
     echo(reply, body)
+}
+
+// ---- 10H: a register to start from, a quantity, a byte count, and the data of the registers
+
+// Several registers are written.
+fn write_several(table: &mut [i32], reply: &mut [u8], body: &[u8]) -> Answered
+    requires { ⌜ Ready (now reply) (now body) ⌝ }
+    ensures { λ r. ⌜ Gives (writingSeveral (now (table .entry)) (now (body .entry)))
+        r (now (reply .entry)) (now (reply .exit)) (now (table .exit)) ⌝ }
+{
+    let fault = writes::write_several(table, body);
+    if fault != NONE {
+        return exception(reply, body, fault);
+    }
+    echo(reply, &body[..COUNT_PLACE])
 }
 
 // ---- 08H: a test code and data
@@ -168,6 +185,7 @@ fn obey(table: &mut [i32], reply: &mut [u8], body: &[u8]) -> Answered
         READ_REGISTERS => read(&table[..], reply, body),
         WRITE_REGISTER => write(table, reply, body),
         LOOPBACK => loop_back(reply, body),
+        WRITE_SEVERAL => write_several(table, reply, body),
         _ => exception(reply, body, UNKNOWN_FUNCTION),
     }
 }

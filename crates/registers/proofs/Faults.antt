@@ -11,11 +11,9 @@ use lib.ListN.{length}
 use Rattle.numbers.specs.Numbers.{none, unless}
 use Rattle.numbers.proofs.Tests.{both, chosen}
 use Rattle.numbers.proofs.Order.{either-first, last-met, passed}
-use Rattle.items.specs.ItemList.{inRange, placeOf}
-use Rattle.registers.specs.Register.{ofRegister}
 use Rattle.registers.specs.Faults.{wrongRegister, wrongData, bodyLength, rightLength, firstWord, secondWord}
 use Rattle.registers.specs.Faults.{mostRegisters, goodQuantity, inMap, readFault}
-use Rattle.registers.specs.Faults.{writable, writeFault, loopbackFault}
+use Rattle.registers.specs.Faults.{loopbackFault}
 
 -- ---- numbers
 
@@ -23,13 +21,13 @@ use Rattle.registers.specs.Faults.{writable, writeFault, loopbackFault}
 abbrev pub Numbered : ℕ → Type 0
 Numbered fault = (fault ≡ none → ⊥) → 30 < fault
 
-none-numbered : Numbered none
+pub none-numbered : Numbered none
 none-numbered f = absurd (f refl)
 
-register-numbered : (test : Bool) → Numbered (unless test wrongRegister)
+pub register-numbered : (test : Bool) → Numbered (unless test wrongRegister)
 register-numbered test = chosen Numbered test (λ e. none-numbered) (λ e f. omega arith)
 
-data-numbered : (test : Bool) → Numbered (unless test wrongData)
+pub data-numbered : (test : Bool) → Numbered (unless test wrongData)
 data-numbered test = chosen Numbered test (λ e. none-numbered) (λ e f. omega arith)
 
 -- so what a fault function gave back is such a number where it is not 0
@@ -86,44 +84,6 @@ read-accepted body e =
       few = leb-true _ _ (q .1);
       span = leb-true _ _ (c .0);
     }
-
--- ---- 06H
-
-module _ (body : List ℕ) where
-  pub write-numbered : Numbered (writeFault body)
-  unfolding writeFault
-  write-numbered =
-      either-first _ _ Numbered (data-numbered (rightLength body))
-      (either-first _ _ Numbered (register-numbered (writable (firstWord body)))
-      (either-first _ _ Numbered (data-numbered (inRange (placeOf (firstWord body)) (ofRegister (secondWord body))))
-      none-numbered))
-
-  pub write-length : (length body ≡ bodyLength → ⊥) → writeFault body ≡ wrongData
-  unfolding writeFault
-  write-length h = rw (ne-eqb (length body) bodyLength h)
-
-  pub write-refused : length body ≡ bodyLength → writable (firstWord body) ≡ false → writeFault body ≡ wrongRegister
-  unfolding writeFault
-  write-refused h w = rw (eq-eqb (length body) bodyLength h, w)
-
-  pub write-ranged : length body ≡ bodyLength → writable (firstWord body) ≡ true → {b : Bool}
-      → b ≡ inRange (placeOf (firstWord body)) (ofRegister (secondWord body)) → writeFault body ≡ unless b wrongData
-  unfolding writeFault
-  write-ranged h w e = rw (eq-eqb (length body) bodyLength h, w, ← e) (last-met _)
-
--- what a request to write that meets no fault is
-pub record ToWrite (body : List ℕ) : Type 0 where
-  pub long : length body ≡ 6
-  pub listed : writable (firstWord body) ≡ true
-  pub ranged : inRange (placeOf (firstWord body)) (ofRegister (secondWord body)) ≡ true
-
-pub write-accepted : (body : List ℕ) → writeFault body ≡ none → ToWrite body
-unfolding writeFault
-write-accepted body e =
-    let a = passed (rightLength body) wrongData _ (omega arith) e in
-    let b = passed (writable (firstWord body)) wrongRegister _ (omega arith) (a .1) in
-    let c = passed (inRange (placeOf (firstWord body)) (ofRegister (secondWord body))) wrongData _ (omega arith) (b .1) in
-    record { long = eqb-true _ _ (a .0); listed = b .0; ranged = c .0 }
 
 -- ---- 08H
 

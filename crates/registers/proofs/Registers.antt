@@ -2,12 +2,15 @@
 -- Assumes nothing.
 use mathlib.Core.Path.{_≡_, refl, ap}
 use mathlib.Core.Bool.{Bool, true, false, cond}
-use Prim.Native.Nat.{ℕ, suc, _-_, _%_, _^_, _≤_, _<_}
+use Prim.Native.Nat.{ℕ, suc, _+_, _-_, _%_, _^_, _<_}
 use native.Mathlib.Omega.{arith}
-use borrow.Author.Tests.{lt-ltb, le-ltb}
+use borrow.Author.Tests.{ltb-true, ltb-false, lt-ltb, le-ltb}
 use lib.Dec.{ltb}
 use lib.IntN.{ℤ, pos, negsuc, _+ℤ_, _-ℤ_}
 use lib.Signed.{mag}
+use mir.Syntax.{w32}
+use mir.Val.{SFits}
+use Rattle.numbers.proofs.Tests.{chosen}
 use Rattle.registers.specs.Register.{toRegister, ofRegister}
 
 -- 2^32 more than an i32 is not below zero, and has the register's 16 bits
@@ -16,9 +19,23 @@ raised (pos k) h = (_, refl, omega arith, omega arith)
 raised (negsuc k) h =
     (4294967296 - suc k, rw (le-ltb 4294967296 (suc k) (omega arith)), omega arith, omega arith)
 
--- from 8000H up, 10000H less is below zero
-pub lowered : (w : ℕ) → 0x8000 ≤ w → w < 0x10000 → pos w -ℤ pos 65536 ≡ negsuc (0xFFFF - w)
-lowered w l h = rw (lt-ltb w 65536 h) (ap negsuc (omega arith))
+-- half the circle more, cut to 16 bits, and then half the circle less, is the number that a register holds
+pub turned : (w : ℕ) → w < 0x10000 → pos ((w + 32768) % 65536) -ℤ pos 32768 ≡ ofRegister w
+turned w h = by (ltb w 0x8000) refl
+  where
+    by : (b : Bool) → ltb w 0x8000 ≡ b → pos ((w + 32768) % 65536) -ℤ pos 32768 ≡ ofRegister w
+    by true e =
+        let low = ltb-true w 0x8000 e in
+        let cut : (w + 32768) % 65536 ≡ w + 32768 = omega arith in
+        rw (e, cut, le-ltb (w + 32768) 32768 (omega arith)) (ap pos (omega arith))
+    by false e =
+        let high = ltb-false w 0x8000 e in
+        let cut : (w + 32768) % 65536 ≡ w - 32768 = omega arith in
+        rw (e, cut, lt-ltb (w - 32768) 32768 (omega arith)) (ap negsuc (omega arith))
+
+-- which fits 32 bits
+pub held-fits : (w : ℕ) → w < 0x10000 → SFits w32 (ofRegister w)
+held-fits w h = chosen (SFits w32) (ltb w 0x8000) (λ e. record { sfits = omega arith }) (λ e. record { sfits = omega arith })
 
 -- a register that holds a value of 16 bits gives that value back
 pub of-to : (v : ℤ) → mag v < 0x8000 → ofRegister (toRegister v) ≡ v

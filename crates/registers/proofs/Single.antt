@@ -11,17 +11,17 @@ first-word = record { asksNothing = λ κs a. tt; single = λ κs a o u p q. sin
 pub second-word : OneOutcome registers.second_word.ended registers.second_word.Reads.Asked registers.second_word.Reads.Post
 second-word = record { asksNothing = λ κs a. tt; single = λ κs a o u p q. single p q & refl }
 
+pub word : OneOutcome registers.word.ended registers.word.Reads.Asked registers.word.Reads.Post
+word = record { asksNothing = λ κs a. tt; single = λ κs a o u p q. single p q & refl }
+
+pub of-register : OneOutcome registers.of_register.ended registers.of_register.Reads.Asked registers.of_register.Reads.Post
+of-register = record { asksNothing = λ κs a. tt; single = λ κs a o u p q. single p q & refl }
+
 pub register-at : OneOutcome registers.register_at.ended registers.register_at.Reads.Asked registers.register_at.Reads.Post
 register-at = record { asksNothing = λ κs a. tt; single = λ κs a o u p q. single p q & refl }
 
 pub read-fault : OneOutcome registers.read_fault.ended registers.read_fault.Reads.Asked registers.read_fault.Reads.Post
 read-fault = record { asksNothing = λ κs a. tt; single = λ κs a o u p q. single p q & refl }
-
-pub write-fault : OneOutcome registers.write_fault.ended registers.write_fault.Reads.Asked registers.write_fault.Reads.Post
-write-fault = record { asksNothing = λ κs a. tt; single = λ κs a o u p q. single p q & refl }
-
-pub store-value : OneOutcome registers.store_value.ended registers.store_value.Reads.Asked registers.store_value.Reads.Post
-store-value = record { asksNothing = λ κs a. tt; single = λ κs a o u p q. refl & single p q & refl }
 
 pub loopback-fault : OneOutcome registers.loopback_fault.ended registers.loopback_fault.Reads.Asked registers.loopback_fault.Reads.Post
 loopback-fault = record { asksNothing = λ κs a. tt; single = λ κs a o u p q. single p q & refl }

@@ -1,14 +1,12 @@
--- What the body of a message asks for by its two words, and the fault that each function meets.
+-- What the body of a message asks for by its two words, and the fault that a read and a loopback meet. Those of a write are in `writes`.
 use Prim.Native.Nat.{ℕ, _+_}
 use mathlib.Core.Bool.{Bool, _&&_}
 use mathlib.Core.List.{List, [], _∷_}
 use lib.Dec.{eqb, leb}
-use lib.IntN.{ℤ}
 use lib.ListN.{getD, length}
 use Rattle.numbers.specs.Numbers.{unless, firstMet}
-use Rattle.items.specs.ItemList.{mapSize, itemAt, inRange, placeOf}
-use Rattle.table.specs.Table.{stored}
-use Rattle.registers.specs.Register.{ofRegister, word}
+use Rattle.items.specs.ItemList.{mapSize}
+use Rattle.registers.specs.Register.{word}
 
 -- the numbers given back here, beside `none`
 abbrev pub wrongRegister : ℕ
@@ -51,25 +49,6 @@ readFault body =
     ∷ unless (goodQuantity (secondWord body)) wrongData
     ∷ unless (inMap (firstWord body) (secondWord body)) wrongRegister
     ∷ [])
-
--- ---- 06H: a register and a value
-
--- the register is that of a writable item
-abbrev pub writable : ℕ → Bool
-writable register = itemAt (placeOf register) .writable
-
--- the length, then the register, then the value
-unfoldable pub writeFault : List ℕ → ℕ
-writeFault body =
-    firstMet
-    (unless (rightLength body) wrongData
-    ∷ unless (writable (firstWord body)) wrongRegister
-    ∷ unless (inRange (placeOf (firstWord body)) (ofRegister (secondWord body))) wrongData
-    ∷ [])
-
--- the item takes the value
-unfoldable pub written : List ℤ → List ℕ → List ℤ
-written table body = stored table (placeOf (firstWord body)) (ofRegister (secondWord body))
 
 -- ---- 08H: a test code and data
 

@@ -2,8 +2,8 @@
 ghost use mathlib.Core.Path.{_≡_};
 ghost use lib.ListN.{getD};
 ghost use Rattle.registers.specs.Register.{toRegister, ofRegister, word, registerAt};
-ghost use Rattle.registers.specs.Faults.{firstWord, secondWord, inMap, written};
-ghost use Rattle.registers.specs.Faults.{readFault, writeFault, loopbackFault};
+ghost use Rattle.registers.specs.Faults.{firstWord, secondWord, inMap};
+ghost use Rattle.registers.specs.Faults.{readFault, loopbackFault};
 use items::Found;
 use numbers::NONE;
 
@@ -13,7 +13,7 @@ pub const WRONG_REGISTER: u8 = 32;
 pub const WRONG_DATA: u8 = 33;
 
 // The length of a body, and the most registers that one message reads.
-const BODY_LENGTH: usize = 6;
+pub const BODY_LENGTH: usize = 6;
 
 const MOST_REGISTERS: u16 = 125;
 
@@ -27,7 +27,7 @@ fn byte_at(body: &[u8], i: usize) -> u8
 }
 
 // The number that two bytes make, the high one first.
-fn word(high: u8, low: u8) -> u16
+pub fn word(high: u8, low: u8) -> u16
     ensures { λ r. ⌜ r ≡ word high low ⌝ }
 {
     (high as u16) * 256 + (low as u16)
@@ -55,15 +55,12 @@ fn to_register(value: i32) -> u16
     (((value as i64) + 4294967296) as u64 % 65536) as u16
 }
 
-// The value that a register holds.
-fn of_register(register: u16) -> i32
+// The value that a register holds: from 8000H up it is below zero. The other half of the circle is taken off, which the compiler makes
+// one instruction.
+pub fn of_register(register: u16) -> i32
     ensures { λ r. ⌜ r ≡ ofRegister register ⌝ }
 {
-    if register < 0x8000 {
-        register as i32
-    } else {
-        register as i32 - 65536
-    }
+    ((register as u32 + 32768) % 65536) as i32 - 32768
 }
 
 // What a register of the map reads.
@@ -98,37 +95,6 @@ pub fn read_fault(body: &[u8]) -> u8
     } else {
         WRONG_REGISTER
     }
-}
-
-// ---- 06H: a register and a value
-
-// The fault of a request to write, 0 for none.
-pub fn write_fault(body: &[u8]) -> u8
-    ensures { λ r. ⌜ r ≡ writeFault (now (body .entry)) ⌝ }
-{
-    if body.len() != BODY_LENGTH {
-        return WRONG_DATA;
-    }
-    let i = items::place_of(first_word(body));
-    if !items::writable(i) {
-        return WRONG_REGISTER;
-    }
-    if items::in_range(i, of_register(second_word(body))) {
-        NONE
-    } else {
-        WRONG_DATA
-    }
-}
-
-// The item takes the value.
-pub fn store_value(table: &mut [i32], body: &[u8])
-    ensures { λ _. ⌜ now (table .exit) ≡ written (now (table .entry)) (now (body .entry)) ⌝ }
-{
-    table::store(
-        table,
-        items::place_of(first_word(body)),
-        of_register(second_word(body)),
-    );
 }
 
 // ---- 08H: a test code and data

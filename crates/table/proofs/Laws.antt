@@ -73,7 +73,15 @@ good-stored t i v g r =
     let p = good-parts t g in
     good-from (set t i v) (length-set t i v ∙ p .0) (all-set itemList t i v (p .1) r)
 
--- a store leaves every other entry
+-- a store leaves the table's length, puts the value in its entry, and leaves every other
+pub stored-length : (t : List ℤ) (i : ℕ) (v : ℤ) → length (stored t i v) ≡ length t
+unfolding stored
+stored-length t i v = length-set t i v
+
+pub stored-same : (t : List ℤ) (i : ℕ) (v : ℤ) → i < length t → entry (stored t i v) i ≡ v
+unfolding stored
+stored-same t i v h = getD-set-same t i v (pos 0) h
+
 pub stored-other : (t : List ℤ) (i j : ℕ) (v : ℤ) → (j ≡ i → ⊥) → entry (stored t i v) j ≡ entry t j
 unfolding stored
 stored-other t i j v h = getD-set-other t i j v (pos 0) h
@@ -184,3 +192,11 @@ answered-AA t = refl
 pub answered-AB : (t : List ℤ) → answered t AB ≡ alarm t A2
 unfolding answered
 answered-AB t = refl
+
+-- what is written may also be read: a writable item answers its entry, since AA and AB are read-only
+pub answered-writable : (t : List ℤ) (i : ℕ) → itemAt i .writable ≡ true → answered t i ≡ entry t i
+unfolding answered
+answered-writable t i w =
+    let other : (k : ℕ) → itemAt k .writable ≡ false → i ≡ k → ⊥ =
+    λ k r e. contrary (sym w ∙ ap (λ (n : ℕ). itemAt n .writable) e ∙ r) in
+    rw (ne-eqb i AA (other AA refl), ne-eqb i AB (other AB refl))

@@ -114,14 +114,13 @@ fn document_004() {
     ask_with_m1(2, 25, b"\x03\x00\x00\x00\x04");
     ask(2, b"\x03\x00\x00\x00\x7E");
     rtu(1, b"\x01\x06\x00\xF4\x00\x32\x49\xED");
-    crc(b"\x01\x10\x00\xF4\x00\x02\x04\x00\x32\x00\x32");
     crc(b"\x01\x10\x00\xF4\x00\x02");
-    crc(b"\x01\x90\x02");
+    rtu(1, b"\x01\x10\x00\xF4\x00\x02\x04\x00\x32\x00\x32\xDD\x02");
     register(1050);
 }
 
 // Modbus over Serial Line: the CRC of its appendix. Modbus Application Protocol: the requests of section 6 to functions that are
-// here, that are not, and to registers that are not.
+// here, that are not, and to registers that are not; and three settings of document 02 in one message.
 fn modbus_documents() {
     crc(b"\x02\x07");
     pdu(b"\x08\x00\x00\xA5\x37");
@@ -131,10 +130,11 @@ fn modbus_documents() {
     pdu(b"\x05\x00\xAC\xFF\x00");
     pdu(b"\x07");
     pdu(b"\x0F\x00\x13\x00\x0A\x02\xCD\x01");
-    pdu(b"\x10\x00\x01\x00\x02\x04\x00\x0A\x01\x02");
     pdu(b"\x16\x00\x04\x00\xF2\x00\x25");
     pdu(b"\x03\x00\x6B\x00\x03");
     pdu(b"\x06\x00\x01\x00\x03");
+    pdu(b"\x10\x00\x01\x00\x02\x04\x00\x0A\x01\x02");
+    pdu(b"\x10\x00\x10\x00\x03\x06\xFF\x6A\x03\xE8\x00\x64");
 }
 
 fn main() {

@@ -6,12 +6,13 @@ use mathlib.Core.Bool.{Bool, false, cond}
 use mathlib.Core.List.{map}
 use mathlib.Core.Logic.{⊎-elim}
 use Prim.Native.Nat.{ℕ, _+_, _-_, _<_, _≤_}
+use native.Mathlib.Nat.{le-of-lt}
 use native.Mathlib.Omega.{arith}
 use lib.Dec.{eqb}
 use lib.ListN.{getD, drop, drop-of-length-le}
 use Rattle.items.specs.declared.Found.the-variants.{At}
 use Rattle.items.specs.ItemList.{Item, items, itemList, itemAt, lines, named, firstFrom, found}
-use Rattle.items.proofs.Lists.{column-inside, search-turn}
+use Rattle.items.proofs.Lists.{column-at, search-turn}
 use Rattle.items.proofs.find.Statement.{statement}
 use Rattle.items.proofs.find.Tie as tie
 
@@ -36,10 +37,10 @@ module _ (a b i : ℕ) (h : i < items) where
   second-decides : {t : Bool} → getD (map (λ (x : Item). x .first) lines) i 0 ≡ a
       → eqb (getD (map (λ (x : Item). x .second) lines) i 0) b ≡ t → named a b (itemAt i) ≡ t
   second-decides p q =
-      simp (eq-eqb _ _ (sym (column-inside (λ (x : Item). x .first) i 0 h) ∙ p), ← column-inside (λ (x : Item). x .second) i 0 h) q
+      simp (eq-eqb _ _ (sym (column-at (λ (x : Item). x .first) i 0 (le-of-lt h)) ∙ p), ← column-at (λ (x : Item). x .second) i 0 (le-of-lt h)) q
 
   first-differs : (getD (map (λ (x : Item). x .first) lines) i 0 ≡ a → ⊥) → named a b (itemAt i) ≡ false
-  first-differs p = simp (ne-eqb _ _ (λ e. p (column-inside (λ (x : Item). x .first) i 0 h ∙ e)))
+  first-differs p = simp (ne-eqb _ _ (λ e. p (column-at (λ (x : Item). x .first) i 0 (le-of-lt h) ∙ e)))
 
 -- a turn: the line at i decides, or the lines after it do
 turn : (c : tie.In-loop Inv-loop μ-loop) {t : Bool} →

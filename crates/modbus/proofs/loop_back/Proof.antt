@@ -23,7 +23,7 @@ returns : tie.Need-returns
 unfolding loopingBack
 returns c t =
     let f = c .before .before .before .before .before in
-    refused _ _ _ _ (f .loopback-fault .ensures) (c .before .before .before .before .if1 .taken) (c .before .before .exception .ensures)
+    refused _ _ _ _ (f .loopback-fault .ensures) (c .before .before .before .before .if1 .taken) refl (c .before .before .exception .ensures)
 
 echo-requires : tie.Need-echo-requires
 echo-requires c κs =

@@ -21,7 +21,7 @@ returns : tie.Need-returns
 unfolding reading
 returns c =
     let f = c .before .before .before .before in
-    refused _ _ _ _ (f .before .read-fault .ensures) (f .if1 .taken) (c .before .before .exception .ensures)
+    refused _ _ _ _ (f .before .read-fault .ensures) (f .if1 .taken) refl (c .before .before .exception .ensures)
 
 send-registers-requires : tie.Need-send-registers-requires
 send-registers-requires c κs = search needs

@@ -11,7 +11,7 @@ use lib.ListN.{drop, drop-of-length-le}
 use Rattle.sign.proofs.Laws.{same}
 use Rattle.items.specs.ItemList.{Item, items, itemList}
 use Rattle.table.specs.Table.{allInRange}
-use Rattle.items.proofs.Lists.{column-inside}
+use Rattle.items.proofs.Lists.{column-at}
 use Rattle.table.proofs.Turns.{check-turn}
 use Rattle.table.proofs.all_in_range.Statement.{statement}
 use Rattle.table.proofs.all_in_range.Tie as tie
@@ -57,8 +57,8 @@ loop-again c =
     let l = r .before .before in
     let t = l .before .args .table .now in
     let h = r .before .loop-test .taken in
-    let low = same _ (c .before .inside .given) ∙ column-inside (λ (x : Item). x .low) (l .loop .i) (pos 0) h in
-    let high = same _ (c .inside2 .given) ∙ column-inside (λ (x : Item). x .high) (l .loop .i) (pos 0) h in
+    let low = same _ (c .before .inside .given) ∙ column-at (λ (x : Item). x .low) (l .loop .i) (pos 0) (omega arith) in
+    let high = same _ (c .inside2 .given) ∙ column-at (λ (x : Item). x .high) (l .loop .i) (pos 0) (omega arith) in
     (search needs, rw (low, high, same _ (r .value .given)) (check-turn (l .loop .inside) itemList t (l .loop .i) h (omega arith) ∙ l .loop .inv .1))
 
 -- at the end nothing is left

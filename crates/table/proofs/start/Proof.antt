@@ -11,7 +11,7 @@ use lib.Seq.{sets}
 use mathlib.Core.List.{List}
 use Rattle.sign.proofs.Laws.{same}
 use Rattle.items.specs.ItemList.{Item, items, itemList, noItem}
-use Rattle.items.proofs.Lists.{column-inside}
+use Rattle.items.proofs.Lists.{column-at}
 use Rattle.table.specs.Table.{startValues, startNumber, startTable}
 use Rattle.table.proofs.Turns.{store-turn, store-all}
 use Rattle.table.proofs.start.Statement.{statement}
@@ -56,7 +56,7 @@ loop-again c =
     let i = l .loop .i in
     let inside = c .before .loop-test .taken in
     let start : Item → ℤ = λ x. x .start in
-    let value = same _ (c .first .given) ∙ column-inside start i (pos 0) inside ∙ sym (List·getD-map start itemList i noItem) in (
+    let value = same _ (c .first .given) ∙ column-at start i (pos 0) (omega arith) ∙ sym (List·getD-map start itemList i noItem) in (
       search needs,
       simp length-set (l .loop .inv .1),
       rw value (sym (store-turn (l .loop .table) startValues i inside) ∙ l .loop .inv .2),

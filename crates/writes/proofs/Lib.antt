@@ -1,0 +1,5 @@
+pub mod Data
+pub mod Faults
+pub mod Stored
+pub mod ReadBack
+pub mod Single

@@ -1,0 +1,76 @@
+-- The table after a list of writes: what each entry becomes, and what writes that are allowed leave alone.
+-- Assumes nothing.
+use mathlib.Core.Path.{_≡_, refl, sym, ap, _∙_}
+use mathlib.Core.Logic.{_⊎_, inl, inr, ⊎-elim}
+use mathlib.Core.Bool.{Bool, true, false, cond}
+use mathlib.Core.List.{List, [], _∷_}
+use Prim.Native.Nat.{ℕ, _<_}
+use native.Mathlib.Omega.{arith}
+use borrow.Author.Tests.{eqb-true, eqb-false}
+use lib.Dec.{eqb}
+use lib.IntN.{ℤ}
+use lib.ListN.{length}
+use Rattle.numbers.proofs.Tests.{both}
+use Rattle.items.specs.ItemList.{itemAt, inRange}
+use Rattle.table.specs.Table.{goodTable, entry, stored}
+use Rattle.table.proofs.Laws.{good-stored, stored-length, stored-same, stored-other, stored-read-only, stored-in-range}
+use Rattle.writes.specs.Writes.{Write, writable, inside, each, storedAll, Given, Value, Nothing, later, given, over}
+
+-- ---- each entry
+
+-- what one write makes of an entry
+one-given : (t : List ℤ) (w : Write) (i : ℕ) → i < length t
+    → entry (stored t (w .place) (w .value)) i ≡ over (entry t i) (cond (eqb (w .place) i) (Value (w .value)) Nothing)
+one-given t w i h = by (eqb (w .place) i) refl
+  where
+    by : (b : Bool) → eqb (w .place) i ≡ b
+        → entry (stored t (w .place) (w .value)) i ≡ over (entry t i) (cond b (Value (w .value)) Nothing)
+    by true e =
+        let here = eqb-true (w .place) i e in
+        ap (entry (stored t (w .place) (w .value))) (sym here) ∙ stored-same t (w .place) (w .value) (omega arith)
+    by false e = stored-other t (w .place) i (w .value) (λ z. eqb-false (w .place) i e (sym z))
+
+-- an entry becomes what the writes give its item, and stays where they give it nothing
+pub all-given : (t : List ℤ) (ws : List Write) (i : ℕ) → i < length t → entry (storedAll t ws) i ≡ over (entry t i) (given ws i)
+all-given t [] i h = refl
+all-given t (w ∷ ws) i h =
+    all-given (stored t (w .place) (w .value)) ws i (rw (stored-length t (w .place) (w .value)) h)
+    ∙ ap (λ (v : ℤ). over v (given ws i)) (one-given t w i h)
+    ∙ by (given ws i)
+  where
+    by : (g : Given) → over (over (entry t i) (cond (eqb (w .place) i) (Value (w .value)) Nothing)) g
+        ≡ over (entry t i) (later g (cond (eqb (w .place) i) (Value (w .value)) Nothing))
+    by (Value v) = refl
+    by Nothing = refl
+
+pub all-length : (t : List ℤ) (ws : List Write) → length (storedAll t ws) ≡ length t
+all-length t [] = refl
+all-length t (w ∷ ws) = all-length (stored t (w .place) (w .value)) ws ∙ stored-length t (w .place) (w .value)
+
+-- ---- writes that are allowed
+
+-- they leave the read-only items
+pub all-read-only : (t : List ℤ) (ws : List Write) (j : ℕ) → each writable ws ≡ true → itemAt j .writable ≡ false
+    → entry (storedAll t ws) j ≡ entry t j
+all-read-only t [] j a r = refl
+all-read-only t (w ∷ ws) j a r =
+    let p = both (writable w) (each writable ws) a in
+    all-read-only (stored t (w .place) (w .value)) ws j (p .1) r ∙ stored-read-only t (w .place) j (w .value) (p .0) r
+
+-- and leave every entry unchanged or in its range, in any table
+pub all-in-range : (t : List ℤ) (ws : List Write) (j : ℕ) → each inside ws ≡ true
+    → (entry (storedAll t ws) j ≡ entry t j) ⊎ (inRange j (entry (storedAll t ws) j) ≡ true)
+all-in-range t [] j a = inl refl
+all-in-range t (w ∷ ws) j a =
+    let p = both (inside w) (each inside ws) a in
+    ⊎-elim
+    (λ stays. ⊎-elim (λ e. inl (stays ∙ e)) (λ r. inr (rw stays r)) (stored-in-range t (w .place) j (w .value) (p .0)))
+    (λ r. inr r)
+    (all-in-range (stored t (w .place) (w .value)) ws j (p .1))
+
+-- so a good table stays good
+pub all-good : (t : List ℤ) (ws : List Write) → goodTable t ≡ true → each inside ws ≡ true → goodTable (storedAll t ws) ≡ true
+all-good t [] g a = g
+all-good t (w ∷ ws) g a =
+    let p = both (inside w) (each inside ws) a in
+    all-good (stored t (w .place) (w .value)) ws (good-stored t (w .place) (w .value) g (p .0)) (p .1)

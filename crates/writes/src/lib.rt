@@ -1,0 +1,178 @@
+// What a message writes, by 06H to one register and by 10H to several: either all of its values are stored or none.
+ghost use mathlib.Core.Path.{_≡_};
+ghost use Prim.Native.Nat.{_+_, _*_, _/_, _≤_, _<_};
+ghost use lib.ListN.{length, getD};
+ghost use Rattle.numbers.specs.Promise.{Lent};
+ghost use Rattle.items.specs.ItemList.{mapSize};
+ghost use Rattle.registers.specs.Register.{ofRegister, word};
+ghost use Rattle.writes.specs.Writes.{writes, writable, inside, each, storedAll};
+ghost use Rattle.writes.specs.Requests.{writeFault, writtenByOne, rightCounts, severalFault, writtenBySeveral};
+use numbers::NONE;
+use registers::BODY_LENGTH;
+use registers::WRONG_DATA;
+use registers::WRONG_REGISTER;
+
+// Where in a body the byte count of 10H stands, and behind it the values.
+pub const COUNT_PLACE: usize = 6;
+
+const DATA_PLACE: usize = 7;
+
+// The most registers that one message writes.
+const MOST_WRITTEN: u16 = 123;
+
+// ---- 06H: a register and a value
+
+// The fault of a request to write one register, 0 for none.
+fn write_fault(body: &[u8]) -> u8
+    ensures { λ r. ⌜ r ≡ writeFault (now (body .entry)) ⌝ }
+{
+    if body.len() != BODY_LENGTH {
+        return WRONG_DATA;
+    }
+    let i = items::place_of(registers::first_word(body));
+    if !items::writable(i) {
+        return WRONG_REGISTER;
+    }
+    if items::in_range(i, registers::of_register(registers::second_word(body))) {
+        NONE
+    } else {
+        WRONG_DATA
+    }
+}
+
+// One register is written, or the number of its fault given back.
+pub fn write_one(table: &mut [i32], body: &[u8]) -> u8
+    ensures { λ r. ⌜ Lent (writeFault (now (body .entry)))
+        (writtenByOne (now (table .entry)) (now (body .entry))) r (now (table .exit)) ⌝ }
+{
+    let fault = write_fault(body);
+    if fault == NONE {
+        table::store(
+            table,
+            items::place_of(registers::first_word(body)),
+            registers::of_register(registers::second_word(body)),
+        );
+    }
+    fault
+}
+
+// ---- registers from a start on, and the bytes of their values
+
+// The value that the bytes have for the register so many behind the start.
+fn value_behind(bytes: &[u8], i: usize) -> i32
+    requires { ⌜ 2 * i + 1 < length (now bytes) ⌝ }
+    ensures { λ r. ⌜ r ≡ ofRegister (word (getD (now (bytes .entry)) (2 * i) 0) (getD (now (bytes .entry)) (2 * i + 1) 0)) ⌝ }
+{
+    registers::of_register(registers::word(bytes[2 * i], bytes[2 * i + 1]))
+}
+
+// Whether each register is that of a writable item. Columns are laid out at each use: here and below before the loop, and not for
+// each register.
+fn each_writable(start: usize, bytes: &[u8]) -> bool
+    requires { ⌜ start + length (now bytes) / 2 ≤ mapSize ⌝ }
+    ensures { λ r. ⌜ r ≡ each writable (writes start (now (bytes .entry))) ⌝ }
+{
+    let places = items::PLACE_AT;
+    let kinds = items::WRITABLE;
+    let quantity = bytes.len() / 2;
+    let mut i = 0;
+    while i < quantity {
+        let place = places[start + i] as usize;
+        if !kinds[place] {
+            return false;
+        }
+        i += 1;
+    }
+    true
+}
+
+// Whether each value is in the range of its item.
+fn each_in_range(start: usize, bytes: &[u8]) -> bool
+    requires { ⌜ start + length (now bytes) / 2 ≤ mapSize ⌝ }
+    ensures { λ r. ⌜ r ≡ each inside (writes start (now (bytes .entry))) ⌝ }
+{
+    let places = items::PLACE_AT;
+    let lows = items::LOW;
+    let highs = items::HIGH;
+    let quantity = bytes.len() / 2;
+    let mut i = 0;
+    while i < quantity {
+        let place = places[start + i] as usize;
+        let value = value_behind(bytes, i);
+        let inside = lows[place] <= value && value <= highs[place];
+        if !inside {
+            return false;
+        }
+        i += 1;
+    }
+    true
+}
+
+// Each item takes its value.
+fn store_each(table: &mut [i32], start: usize, bytes: &[u8])
+    requires { ⌜ start + length (now bytes) / 2 ≤ mapSize ⌝ }
+    ensures { λ _. ⌜ now (table .exit) ≡ storedAll (now (table .entry)) (writes start (now (bytes .entry))) ⌝ }
+{
+    let places = items::PLACE_AT;
+    let quantity = bytes.len() / 2;
+    let mut i = 0;
+    while i < quantity {
+        let place = places[start + i] as usize;
+        table::store(table, place, value_behind(bytes, i));
+        i += 1;
+    }
+}
+
+// ---- 10H: a register to start from, a quantity, a byte count, and the values of the registers
+
+// Whether length, quantity and byte count are right, and agree.
+fn right_counts(body: &[u8]) -> bool
+    ensures { λ r. ⌜ r ≡ rightCounts (now (body .entry)) ⌝ }
+{
+    if body.len() < DATA_PLACE {
+        return false;
+    }
+    let quantity = registers::second_word(body);
+    let count = body[COUNT_PLACE] as usize;
+    (body.len() == DATA_PLACE + count)
+        & (1 <= quantity)
+        & (quantity <= MOST_WRITTEN)
+        & (count == 2 * quantity as usize)
+}
+
+// The fault of a request to write several registers, 0 for none. A span that leaves the map has a register that is no item's; the sum
+// is made in 64 bits, where it does not wrap. Every register is looked at before any value.
+fn several_fault(body: &[u8]) -> u8
+    ensures { λ r. ⌜ r ≡ severalFault (now (body .entry)) ⌝ }
+{
+    if !right_counts(body) {
+        return WRONG_DATA;
+    }
+    let start = registers::first_word(body) as usize;
+    let bytes = &body[DATA_PLACE..];
+    if items::MAP_SIZE < start + bytes.len() / 2 || !each_writable(start, bytes) {
+        return WRONG_REGISTER;
+    }
+    if each_in_range(start, bytes) {
+        NONE
+    } else {
+        WRONG_DATA
+    }
+}
+
+// Several registers are written, or the number of their fault given back. No value is stored before all are judged.
+pub fn write_several(table: &mut [i32], body: &[u8]) -> u8
+    ensures { λ r. ⌜ Lent (severalFault (now (body .entry)))
+        (writtenBySeveral (now (table .entry)) (now (body .entry))) r (now (table .exit)) ⌝ }
+{
+    let fault = several_fault(body);
+    if fault != NONE {
+        return fault;
+    }
+    store_each(
+        table,
+        registers::first_word(body) as usize,
+        &body[DATA_PLACE..],
+    );
+    NONE
+}
