@@ -16,11 +16,11 @@ use Rattle.numbers.proofs.Tests.{chosen}
 use Rattle.numbers.proofs.Order.{either-way}
 use Rattle.items.specs.ItemList.{itemAt, inRange}
 use Rattle.table.specs.Table.{goodTable, entry}
-use Rattle.registers.specs.Faults.{firstWord, secondWord, readFault, loopbackFault}
+use Rattle.registers.specs.Faults.{firstWord, secondWord, readFault, countPlace, dataPlace, loopbackFault}
 use Rattle.registers.proofs.Faults.{Numbered, read-numbered, loopback-numbered, read-accepted, loopback-accepted}
 use Rattle.writes.specs.Writes.{Write, writable, inside, each, storedAll}
-use Rattle.writes.specs.Requests.{writesFrom, writeFault, valuePlace, severalFault, countPlace, dataPlace}
-use Rattle.writes.proofs.Faults.{request-numbered, Allowed, request-allowed, write-long}
+use Rattle.writes.specs.Requests.{writesFrom, writeFault, valuePlace, severalFault}
+use Rattle.writes.proofs.Faults.{Allowed, write-numbered, write-allowed, write-long, several-numbered, several-allowed}
 use Rattle.writes.proofs.Stored.{all-read-only, all-in-range, all-good}
 use Rattle.modbus.specs.Outcome.{Outcome, otherAddress, unknownFunction, functionOf, silent, done, exceptionReply, exception}
 use Rattle.modbus.specs.Rules.{readRegisters, writeRegister, loopback, writeSeveral, readReply}
@@ -45,9 +45,9 @@ module _ (P : Outcome → Type 0) (t : List ℤ) (body : List ℕ)
   unfolding obeying reading writing loopingBack writingSeveral
   obeyed r w l s =
       by-function readRegisters (by-fault (readFault body) (read-numbered body)) r
-      (by-function writeRegister (by-fault (writeFault body) (request-numbered _ _)) w
+      (by-function writeRegister (by-fault (writeFault body) (write-numbered body)) w
       (by-function loopback (by-fault (loopbackFault body) (loopback-numbered body)) l
-      (by-function writeSeveral (by-fault (severalFault body) (request-numbered _ _)) s
+      (by-function writeSeveral (by-fault (severalFault body) (several-numbered body)) s
       (exceptions unknownFunction (omega arith)))))
     where
       -- what a function does where it is asked for, and else what the others do
@@ -76,8 +76,8 @@ every-table : (Q : List ℤ → Type 0) (t : List ℤ) (address : ℕ) (body : L
     → ((ws : List Write) → each writable ws ≡ true → each inside ws ≡ true → Q (storedAll t ws))
     → Q (acted t address body .table)
 every-table Q t address body q w =
-    every (λ (o : Outcome). Q (o .table)) t address body q (λ number h. q) (λ f e. q) (λ f e. by (request-allowed _ _ e)) (λ f e. q)
-    (λ f e. by (request-allowed _ _ e))
+    every (λ (o : Outcome). Q (o .table)) t address body q (λ number h. q) (λ f e. q) (λ f e. by (write-allowed body e)) (λ f e. q)
+    (λ f e. by (several-allowed body e))
   where
     by : {right : Bool} {ws : List Write} → Allowed right ws → Q (storedAll t ws)
     by {ws = ws} a = w ws (a .registers) (a .values)

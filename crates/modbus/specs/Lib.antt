@@ -1,4 +1,3 @@
 pub mod Outcome
 pub mod Rules
 pub mod Promise
-pub mod Writing

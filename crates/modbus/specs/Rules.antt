@@ -8,9 +8,9 @@ use lib.IntN.{ℤ}
 use lib.ListN.{length, take}
 use Rattle.numbers.specs.Numbers.{unless, unlessMet, shortBuffer, leastBuffer}
 use Rattle.registers.specs.Register.{registersFrom}
-use Rattle.registers.specs.Faults.{firstWord, secondWord, readFault, loopbackFault}
+use Rattle.registers.specs.Faults.{firstWord, secondWord, readFault, countPlace, dataPlace, loopbackFault}
 use Rattle.writes.specs.Writes.{storedAll}
-use Rattle.writes.specs.Requests.{writesFrom, writeFault, valuePlace, severalFault, countPlace, dataPlace}
+use Rattle.writes.specs.Requests.{writesFrom, writeFault, valuePlace, severalFault}
 use Rattle.modbus.specs.Outcome.{Outcome, otherAddress, unknownFunction, silent, done, exception}
 use Rattle.modbus.specs.Outcome.{headLength, addressOf, functionOf}
 

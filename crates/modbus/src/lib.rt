@@ -14,7 +14,7 @@ ghost use Rattle.modbus.specs.Promise.{Ready, Sends, Gives};
 use numbers::LEAST_BUFFER;
 use numbers::NONE;
 use numbers::SHORT_BUFFER;
-use writes::COUNT_PLACE;
+use registers::COUNT_PLACE;
 
 // What a call hands back: the number, 0 for none, and the length of the reply.
 pub struct Answered {

@@ -1,9 +1,9 @@
 -- The rules of each function one by one, and what follows from meeting a fault or none.
 -- Assumes nothing.
 use mathlib.Core.Path.{_≡_, refl, _∙_}
-use mathlib.Core.Bool.{Bool, true, false}
+use mathlib.Core.Bool.{Bool, true, _&&_}
 use mathlib.Core.List.{List}
-use Prim.Native.Nat.{ℕ, _+_, _≤_, _<_}
+use Prim.Native.Nat.{ℕ, _+_, _*_, _≤_, _<_}
 use native.Mathlib.Omega.{arith}
 use borrow.Author.Tests.{eqb-true, eq-eqb, ne-eqb, leb-true, le-leb, lt-leb}
 use lib.Dec.{eqb, leb}
@@ -13,7 +13,7 @@ use Rattle.numbers.proofs.Tests.{both, chosen}
 use Rattle.numbers.proofs.Order.{either-first, last-met, passed}
 use Rattle.registers.specs.Faults.{wrongRegister, wrongData, bodyLength, rightLength, firstWord, secondWord}
 use Rattle.registers.specs.Faults.{mostRegisters, goodQuantity, inMap, readFault}
-use Rattle.registers.specs.Faults.{loopbackFault}
+use Rattle.registers.specs.Faults.{dataPlace, byteCount, mostWritten, rightCounts, loopbackFault}
 
 -- ---- numbers
 
@@ -83,6 +83,31 @@ read-accepted body e =
       some = leb-true _ _ (q .0);
       few = leb-true _ _ (q .1);
       span = leb-true _ _ (c .0);
+    }
+
+-- ---- 10H
+
+-- length, quantity and byte count agree
+pub record Counted (body : List ℕ) : Type 0 where
+  pub long : length body ≡ 7 + byteCount body
+  pub some : 1 ≤ secondWord body
+  pub few : secondWord body ≤ 123
+  pub twice : byteCount body ≡ 2 * secondWord body
+
+pub counted : (body : List ℕ) → rightCounts body ≡ true → Counted body
+unfolding rightCounts
+counted body r =
+    let long = eqb (length body) (dataPlace + byteCount body) in
+    let some = leb 1 (secondWord body) in
+    let few = leb (secondWord body) mostWritten in
+    let t = both (long && some && few) (eqb (byteCount body) (2 * secondWord body)) r in
+    let f = both (long && some) few (t .0) in
+    let s = both long some (f .0) in
+    record {
+      long = eqb-true _ _ (s .0);
+      some = leb-true _ _ (s .1);
+      few = leb-true _ _ (f .1);
+      twice = eqb-true _ _ (t .1);
     }
 
 -- ---- 08H

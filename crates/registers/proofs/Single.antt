@@ -23,5 +23,8 @@ register-at = record { asksNothing = λ κs a. tt; single = λ κs a o u p q. si
 pub read-fault : OneOutcome registers.read_fault.ended registers.read_fault.Reads.Asked registers.read_fault.Reads.Post
 read-fault = record { asksNothing = λ κs a. tt; single = λ κs a o u p q. single p q & refl }
 
+pub right-counts : OneOutcome registers.right_counts.ended registers.right_counts.Reads.Asked registers.right_counts.Reads.Post
+right-counts = record { asksNothing = λ κs a. tt; single = λ κs a o u p q. single p q & refl }
+
 pub loopback-fault : OneOutcome registers.loopback_fault.ended registers.loopback_fault.Reads.Asked registers.loopback_fault.Reads.Post
 loopback-fault = record { asksNothing = λ κs a. tt; single = λ κs a o u p q. single p q & refl }

@@ -1,5 +1,5 @@
 -- What the body of a message asks for by its two words, and the fault that a read and a loopback meet. Those of a write are in `writes`.
-use Prim.Native.Nat.{ℕ, _+_}
+use Prim.Native.Nat.{ℕ, _+_, _*_}
 use mathlib.Core.Bool.{Bool, _&&_}
 use mathlib.Core.List.{List, [], _∷_}
 use lib.Dec.{eqb, leb}
@@ -49,6 +49,29 @@ readFault body =
     ∷ unless (goodQuantity (secondWord body)) wrongData
     ∷ unless (inMap (firstWord body) (secondWord body)) wrongRegister
     ∷ [])
+
+-- ---- 10H: a register to start from, a quantity, a byte count, and the values of the registers
+
+-- the data stands behind the byte count, which stands behind the quantity
+abbrev pub countPlace : ℕ
+countPlace = 6
+
+abbrev pub dataPlace : ℕ
+dataPlace = 7
+
+abbrev pub byteCount : List ℕ → ℕ
+byteCount body = getD body countPlace 0
+
+-- the most registers that one message writes
+abbrev pub mostWritten : ℕ
+mostWritten = 123
+
+-- the form of a request: the length is seven and the byte count, so that a body which is too short to have one is wrong; 1 to 123
+-- registers are written; the byte count is twice their quantity
+unfoldable pub rightCounts : List ℕ → Bool
+rightCounts body =
+    eqb (length body) (dataPlace + byteCount body) && leb 1 (secondWord body) && leb (secondWord body) mostWritten
+    && eqb (byteCount body) (2 * secondWord body)
 
 -- ---- 08H: a test code and data
 

@@ -3,7 +3,7 @@ ghost use mathlib.Core.Path.{_≡_};
 ghost use lib.ListN.{getD};
 ghost use Rattle.registers.specs.Register.{toRegister, ofRegister, word, registerAt};
 ghost use Rattle.registers.specs.Faults.{firstWord, secondWord, inMap};
-ghost use Rattle.registers.specs.Faults.{readFault, loopbackFault};
+ghost use Rattle.registers.specs.Faults.{readFault, rightCounts, loopbackFault};
 use items::Found;
 use numbers::NONE;
 
@@ -95,6 +95,31 @@ pub fn read_fault(body: &[u8]) -> u8
     } else {
         WRONG_REGISTER
     }
+}
+
+// ---- 10H: a register to start from, a quantity, a byte count, and the values of the registers
+
+// Where in a body the byte count stands, and behind it the values.
+pub const COUNT_PLACE: usize = 6;
+
+pub const DATA_PLACE: usize = 7;
+
+// The most registers that one message writes.
+const MOST_WRITTEN: u16 = 123;
+
+// Whether length, quantity and byte count are right, and agree.
+pub fn right_counts(body: &[u8]) -> bool
+    ensures { λ r. ⌜ r ≡ rightCounts (now (body .entry)) ⌝ }
+{
+    if body.len() < DATA_PLACE {
+        return false;
+    }
+    let quantity = second_word(body);
+    let count = body[COUNT_PLACE] as usize;
+    (body.len() == DATA_PLACE + count)
+        & (1 <= quantity)
+        & (quantity <= MOST_WRITTEN)
+        & (count == 2 * quantity as usize)
 }
 
 // ---- 08H: a test code and data

@@ -1,25 +1,23 @@
 -- The rules of a request to write one by one, and what is known of one that meets no fault.
 -- Assumes nothing.
 use mathlib.Core.Path.{_≡_, sym, ap, _∙_}
-use mathlib.Core.Bool.{Bool, true, false, _&&_, and-true}
+use mathlib.Core.Bool.{Bool, true, false, and-true}
 use mathlib.Core.List.{List, [], _∷_}
-use Prim.Native.Nat.{ℕ, _+_, _*_, _≤_}
+use Prim.Native.Nat.{ℕ}
 use native.Mathlib.Omega.{arith}
-use borrow.Author.Tests.{eqb-true, leb-true}
-use lib.Dec.{eqb, leb}
+use borrow.Author.Tests.{eqb-true}
 use lib.IntN.{ℤ}
 use lib.ListN.{length, drop, length-drop, drop-of-length-le}
 use lib.Seq.{drop-cons}
 use Rattle.numbers.specs.Numbers.{none, unless}
 use Rattle.numbers.specs.Promise.{Lent}
-use Rattle.numbers.proofs.Tests.{both}
 use Rattle.numbers.proofs.Order.{either-first, last-met, passed, is-refused, is-done}
 use Rattle.items.specs.ItemList.{placeOf}
 use Rattle.registers.specs.Register.{ofRegister}
-use Rattle.registers.specs.Faults.{wrongRegister, wrongData, bodyLength, firstWord, secondWord}
-use Rattle.registers.proofs.Faults.{Numbered, none-numbered, register-numbered, data-numbered}
+use Rattle.registers.specs.Faults.{wrongRegister, wrongData, bodyLength, rightLength, firstWord, secondWord, dataPlace, rightCounts}
+use Rattle.registers.proofs.Faults.{Numbered, none-numbered, register-numbered, data-numbered, Counted}
 use Rattle.writes.specs.Writes.{Write, writable, inside, each, requestFault, storedAll, storedUnless}
-use Rattle.writes.specs.Requests.{writesFrom, valuePlace, writeFault, dataPlace, byteCount, mostWritten, rightCounts}
+use Rattle.writes.specs.Requests.{writesFrom, valuePlace, writeFault, severalFault}
 use Rattle.writes.proofs.ReadBack.{length-writes}
 
 module _ (right : Bool) (ws : List Write) where
@@ -80,9 +78,18 @@ module _ (fault : ℕ) (t : List ℤ) (ws : List Write) {number : ℕ} where
 
 -- ---- 06H
 
--- a request that meets no fault is as long as it must be
-pub write-long : (body : List ℕ) → writeFault body ≡ none → length body ≡ bodyLength
-write-long body e = eqb-true _ _ (request-allowed _ _ e .form)
+module _ (body : List ℕ) where
+  pub write-numbered : Numbered (writeFault body)
+  unfolding writeFault
+  write-numbered = request-numbered (rightLength body) (writesFrom valuePlace body)
+
+  pub write-allowed : writeFault body ≡ none → Allowed (rightLength body) (writesFrom valuePlace body)
+  unfolding writeFault
+  write-allowed = request-allowed (rightLength body) (writesFrom valuePlace body)
+
+  -- a request that meets no fault is as long as it must be
+  pub write-long : writeFault body ≡ none → length body ≡ bodyLength
+  write-long e = eqb-true _ _ (write-allowed e .form)
 
 module _ (body : List ℕ) (six : length body ≡ bodyLength) where
   -- one of that length writes its second word to the register of its first
@@ -99,27 +106,14 @@ module _ (body : List ℕ) (six : length body ≡ bodyLength) where
 
 -- ---- 10H
 
--- length, quantity and byte count agree
-pub record Counted (body : List ℕ) : Type 0 where
-  pub long : length body ≡ 7 + byteCount body
-  pub some : 1 ≤ secondWord body
-  pub few : secondWord body ≤ 123
-  pub twice : byteCount body ≡ 2 * secondWord body
+module _ (body : List ℕ) where
+  pub several-numbered : Numbered (severalFault body)
+  unfolding severalFault
+  several-numbered = request-numbered (rightCounts body) (writesFrom dataPlace body)
 
-pub counted : (body : List ℕ) → rightCounts body ≡ true → Counted body
-counted body r =
-    let long = eqb (length body) (dataPlace + byteCount body) in
-    let some = leb 1 (secondWord body) in
-    let few = leb (secondWord body) mostWritten in
-    let t = both (long && some && few) (eqb (byteCount body) (2 * secondWord body)) r in
-    let f = both (long && some) few (t .0) in
-    let s = both long some (f .0) in
-    record {
-      long = eqb-true _ _ (s .0);
-      some = leb-true _ _ (s .1);
-      few = leb-true _ _ (f .1);
-      twice = eqb-true _ _ (t .1);
-    }
+  pub several-allowed : severalFault body ≡ none → Allowed (rightCounts body) (writesFrom dataPlace body)
+  unfolding severalFault
+  several-allowed = request-allowed (rightCounts body) (writesFrom dataPlace body)
 
 -- then there are as many writes as the quantity says
 pub several-writes : (body : List ℕ) → Counted body → length (writesFrom dataPlace body) ≡ secondWord body

@@ -1,10 +1,10 @@
 -- What writes that are allowed leave outside their span, and that the registers of the span then read what was written.
 -- Assumes nothing.
 use mathlib.Core.Path.{_≡_, refl, sym, ap, ap₂, _∙_}
-use mathlib.Core.Logic.{_⊎_, inl, inr, ⊎-elim}
+use mathlib.Core.Logic.{inl, inr, ⊎-elim}
 use mathlib.Core.Bool.{Bool, true, false}
 use mathlib.Core.List.{List, [], _∷_, _++_}
-use Prim.Native.Nat.{ℕ, zero, suc, _+_, _*_, _/_, _%_, _≤_, _<_}
+use Prim.Native.Nat.{ℕ, suc, _+_, _*_, _/_, _≤_, _<_}
 use native.Mathlib.Omega.{arith}
 use borrow.Author.Tests.{ltb-true, ltb-false}
 use lib.Dec.{ltb}
@@ -14,7 +14,7 @@ use Rattle.numbers.proofs.Tests.{contrary, both}
 use Rattle.items.specs.ItemList.{items, mapSize, itemAt, placeOf}
 use Rattle.items.proofs.Lists.{writable-listed}
 use Rattle.items.proofs.Lookup.{item-has, place-past, place-registered}
-use Rattle.table.specs.Table.{entry, stored}
+use Rattle.table.specs.Table.{entry}
 use Rattle.table.proofs.Laws.{stored-length, stored-same, stored-other, answered-writable}
 use Rattle.registers.specs.Register.{toRegister, word, highFirst, readAs, registerAt, registersFrom}
 use Rattle.registers.proofs.Registers.{to-of}

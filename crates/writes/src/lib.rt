@@ -6,19 +6,12 @@ ghost use Rattle.numbers.specs.Promise.{Lent};
 ghost use Rattle.items.specs.ItemList.{mapSize};
 ghost use Rattle.registers.specs.Register.{ofRegister, word};
 ghost use Rattle.writes.specs.Writes.{writes, writable, inside, each, storedAll};
-ghost use Rattle.writes.specs.Requests.{writeFault, writtenByOne, rightCounts, severalFault, writtenBySeveral};
+ghost use Rattle.writes.specs.Requests.{writeFault, writtenByOne, severalFault, writtenBySeveral};
 use numbers::NONE;
 use registers::BODY_LENGTH;
+use registers::DATA_PLACE;
 use registers::WRONG_DATA;
 use registers::WRONG_REGISTER;
-
-// Where in a body the byte count of 10H stands, and behind it the values.
-pub const COUNT_PLACE: usize = 6;
-
-const DATA_PLACE: usize = 7;
-
-// The most registers that one message writes.
-const MOST_WRITTEN: u16 = 123;
 
 // ---- 06H: a register and a value
 
@@ -125,27 +118,12 @@ fn store_each(table: &mut [i32], start: usize, bytes: &[u8])
 
 // ---- 10H: a register to start from, a quantity, a byte count, and the values of the registers
 
-// Whether length, quantity and byte count are right, and agree.
-fn right_counts(body: &[u8]) -> bool
-    ensures { λ r. ⌜ r ≡ rightCounts (now (body .entry)) ⌝ }
-{
-    if body.len() < DATA_PLACE {
-        return false;
-    }
-    let quantity = registers::second_word(body);
-    let count = body[COUNT_PLACE] as usize;
-    (body.len() == DATA_PLACE + count)
-        & (1 <= quantity)
-        & (quantity <= MOST_WRITTEN)
-        & (count == 2 * quantity as usize)
-}
-
 // The fault of a request to write several registers, 0 for none. A span that leaves the map has a register that is no item's; the sum
 // is made in 64 bits, where it does not wrap. Every register is looked at before any value.
 fn several_fault(body: &[u8]) -> u8
     ensures { λ r. ⌜ r ≡ severalFault (now (body .entry)) ⌝ }
 {
-    if !right_counts(body) {
+    if !registers::right_counts(body) {
         return WRONG_DATA;
     }
     let start = registers::first_word(body) as usize;

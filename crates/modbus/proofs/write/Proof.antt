@@ -5,7 +5,7 @@ use native.Mathlib.Omega.{arith}
 use lib.ListN.{length}
 use Rattle.registers.specs.Faults.{bodyLength}
 use Rattle.registers.proofs.Faults.{numbered-of}
-use Rattle.writes.proofs.Faults.{request-numbered, left-none, left-all, write-long}
+use Rattle.writes.proofs.Faults.{left-none, left-all, write-numbered, write-long}
 use Rattle.modbus.specs.Rules.{writing}
 use Rattle.modbus.proofs.Acting.{refused, accepted}
 use borrow.Author.Needs.{needs}
@@ -17,7 +17,7 @@ write-one-requires c κs = search needs
 
 exception-requires : tie.Need-exception-requires
 exception-requires c κs =
-    (search needs, numbered-of (request-numbered _ _) (c .before .before .before .write-one .ensures .given) (c .before .if1 .taken))
+    (search needs, numbered-of (write-numbered _) (c .before .before .before .write-one .ensures .given) (c .before .if1 .taken))
 
 same-length : tie.Need-same-length
 same-length c = search needs

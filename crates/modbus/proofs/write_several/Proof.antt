@@ -4,9 +4,9 @@ use mathlib.Core.Path.{sym, _∙_}
 use native.Mathlib.Omega.{arith}
 use lib.ListN.{length-take}
 use lib.Seq.{length-take-le}
-use Rattle.registers.proofs.Faults.{numbered-of}
-use Rattle.writes.specs.Requests.{countPlace}
-use Rattle.writes.proofs.Faults.{request-numbered, request-allowed, left-none, left-all, Counted, counted}
+use Rattle.registers.specs.Faults.{countPlace}
+use Rattle.registers.proofs.Faults.{numbered-of, Counted, counted}
+use Rattle.writes.proofs.Faults.{left-none, left-all, several-numbered, several-allowed}
 use Rattle.modbus.specs.Rules.{writingSeveral}
 use Rattle.modbus.proofs.Acting.{refused, accepted}
 use borrow.Author.Needs.{needs}
@@ -18,7 +18,7 @@ write-several-requires c κs = search needs
 
 exception-requires : tie.Need-exception-requires
 exception-requires c κs =
-    (search needs, numbered-of (request-numbered _ _) (c .before .before .before .write-several .ensures .given) (c .before .if1 .taken))
+    (search needs, numbered-of (several-numbered _) (c .before .before .before .write-several .ensures .given) (c .before .if1 .taken))
 
 same-length : tie.Need-same-length
 same-length c = search needs
@@ -37,7 +37,7 @@ returns c =
 counts : (c : tie.Else1) → Counted (c .before .before .before .before .before .before .args .body .now)
 counts c =
     let e = sym (c .before .before .write-several .ensures .given) ∙ c .if1 .left in
-    counted (c .before .before .before .before .before .before .args .body .now) (request-allowed _ _ e .form)
+    counted (c .before .before .before .before .before .before .args .body .now) (several-allowed _ e .form)
 
 slice-aggregate-echo : tie.Need-slice-aggregate-echo
 slice-aggregate-echo c =

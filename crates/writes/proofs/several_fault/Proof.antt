@@ -8,11 +8,12 @@ use native.Mathlib.Omega.{arith}
 use borrow.Author.Tests.{not-true, not-false}
 use lib.ListN.{length, take, drop}
 use Rattle.numbers.specs.Numbers.{unless}
-use Rattle.registers.specs.Faults.{wrongData, firstWord}
+use Rattle.registers.specs.Faults.{wrongData, firstWord, dataPlace, rightCounts}
+use Rattle.registers.proofs.Faults.{Counted, counted}
 use Rattle.writes.specs.Writes.{Write, writes, writable, inside, each}
-use Rattle.writes.specs.Requests.{writesFrom, dataPlace, rightCounts, severalFault}
+use Rattle.writes.specs.Requests.{writesFrom, severalFault}
 use Rattle.writes.proofs.Data.{to-the-end}
-use Rattle.writes.proofs.Faults.{form-wrong, register-wrong, registers-right, Counted, counted, several-writes}
+use Rattle.writes.proofs.Faults.{form-wrong, register-wrong, registers-right, several-writes}
 use Rattle.writes.proofs.ReadBack.{span-past-map}
 use borrow.Author.Needs.{needs}
 use Rattle.writes.proofs.several_fault.Statement.{statement}
@@ -22,6 +23,7 @@ right-counts-requires : tie.Need-right-counts-requires
 right-counts-requires c κs = search needs
 
 returns : tie.Need-returns
+unfolding severalFault
 returns c = sym (form-wrong _ _ (sym (c .before .right-counts .ensures) ∙ not-true _ (c .if1 .taken)))
 
 first-word-requires : tie.Need-first-word-requires
@@ -67,6 +69,7 @@ kinds c = c .each-writable .ensures ∙ asked (c .before .before .before) writab
 
 -- a span that leaves the map, or a register in it that is not writable
 returns-2 : tie.Need-returns-2
+unfolding severalFault
 returns-2 c =
     let f = c .before .before in
     let body = f .before .before .before .before .args .body .now in
@@ -85,6 +88,7 @@ each-in-range-requires c κs = search needs
 ranged : (c : tie.After-each-in-range) →
     let f = c .before .before .before .before .before in
     severalFault (f .before .before .before .before .args .body .now) ≡ unless (c .each-in-range .result) wrongData
+unfolding severalFault
 ranged c =
     let w = c .before .before in
     let f = w .before .before .before in

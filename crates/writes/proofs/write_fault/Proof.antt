@@ -18,6 +18,7 @@ use Rattle.writes.proofs.write_fault.Statement.{statement}
 use Rattle.writes.proofs.write_fault.Tie as tie
 
 returns : tie.Need-returns
+unfolding writeFault
 returns c = sym (form-wrong _ _ (ne-eqb (length (c .before .before .args .body .now)) bodyLength (λ z. omega arith)))
 
 first-word-requires : tie.Need-first-word-requires
@@ -41,6 +42,7 @@ kind c =
     c .writable .ensures ∙ ap (λ (i : ℕ). itemAt i .writable) (place (c .before)) ∙ sym (one-tested body (omega arith) writable)
 
 returns-2 : tie.Need-returns-2
+unfolding writeFault
 returns-2 c =
     let body = c .before .before .before .before .before .before .args .body .now in
     sym (register-wrong _ _ (eq-eqb (length body) bodyLength (omega arith)) (sym (kind (c .before)) ∙ not-true _ (c .if2 .taken)))
@@ -58,6 +60,7 @@ in-range-requires c κs = search needs
 ranged : (c : tie.After-in-range) →
     let body = c .before .before .before .before .before .before .before .before .before .args .body .now in
     writeFault body ≡ unless (c .in-range .result) wrongData
+unfolding writeFault
 ranged c =
     let w = c .before .before .before in
     let body = w .before .before .before .before .before .before .args .body .now in

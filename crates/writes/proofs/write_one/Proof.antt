@@ -1,5 +1,5 @@
 -- `writes::write_one` meets its contract: the one write of a request that meets no fault is stored. Assumes nothing.
-use mathlib.Core.Path.{_≡_, sym, ap, ap₂, _∙_}
+use mathlib.Core.Path.{sym, ap, ap₂, _∙_}
 use Rattle.sign.proofs.Laws.{same}
 use Rattle.items.specs.ItemList.{placeOf}
 use Rattle.table.specs.Table.{stored}

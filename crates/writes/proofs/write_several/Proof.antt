@@ -5,11 +5,12 @@ use Prim.Native.Nat.{ℕ}
 use native.Mathlib.Omega.{arith}
 use lib.ListN.{drop}
 use Rattle.numbers.specs.Numbers.{none}
-use Rattle.registers.specs.Faults.{firstWord}
+use Rattle.registers.specs.Faults.{firstWord, dataPlace}
+use Rattle.registers.proofs.Faults.{Counted, counted}
 use Rattle.writes.specs.Writes.{writes, storedAll}
-use Rattle.writes.specs.Requests.{dataPlace, severalFault}
+use Rattle.writes.specs.Requests.{severalFault}
 use Rattle.writes.proofs.Data.{to-the-end}
-use Rattle.writes.proofs.Faults.{request-allowed, none-stored, all-stored, Counted, counted, several-writes}
+use Rattle.writes.proofs.Faults.{none-stored, all-stored, several-allowed, several-writes}
 use Rattle.writes.proofs.ReadBack.{span-in-map}
 use borrow.Author.Needs.{needs}
 use Rattle.writes.proofs.write_several.Statement.{statement}
@@ -32,7 +33,9 @@ fine : (c : tie.Else1) → severalFault (c .before .before .before .args .body .
 fine c = sym (c .before .several-fault .ensures) ∙ c .if1 .left
 
 counts : (c : tie.Else1) → Counted (c .before .before .before .args .body .now)
-counts c = counted (c .before .before .before .args .body .now) (request-allowed _ _ (fine c) .form)
+counts c =
+    let body = c .before .before .before .args .body .now in
+    counted body (several-allowed body (fine c) .form)
 
 sub-store-each : tie.Need-sub-store-each
 sub-store-each c = let k = counts (c .before .before) in omega arith
@@ -41,7 +44,7 @@ part-store-each-start : tie.Need-part-store-each-start
 part-store-each-start c = let k = counts (c .before .before) in omega arith
 
 part-store-each-end : tie.Need-part-store-each-end
-part-store-each-end c = search needs
+part-store-each-end c = let k = counts (c .before .before) in omega arith
 
 -- and its span is in the map
 store-each-requires : tie.Need-store-each-requires
@@ -52,7 +55,7 @@ store-each-requires c κs =
     let many = several-writes body k in
     let long = to-the-end dataPlace body in
     let start = c .before .first-word .ensures in
-    let span = span-in-map (firstWord body) (drop dataPlace body) (request-allowed _ _ (fine f) .registers) (omega arith) in
+    let span = span-in-map (firstWord body) (drop dataPlace body) (several-allowed body (fine f) .registers) (omega arith) in
     omega arith
 
 same-length : tie.Need-same-length

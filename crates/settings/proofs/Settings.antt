@@ -1,4 +1,4 @@
--- What is claimed of every message, as of those that write, in specs/Writing.antt.
+-- What is claimed in specs/Settings.antt of every message.
 -- Assumes nothing.
 use mathlib.Core.Path.{_≡_, refl, sym, ap, ap₂, subst⁻¹, _∙_}
 use mathlib.Core.Logic.{_⊎_, inl, inr, ⊎-elim}
@@ -14,21 +14,21 @@ use lib.Seq.{getD-drop}
 use Rattle.numbers.specs.Numbers.{none}
 use Rattle.numbers.proofs.Tests.{both}
 use Rattle.numbers.proofs.Order.{is-done}
-use Rattle.items.specs.ItemList.{items, mapSize, itemAt}
+use Rattle.items.specs.ItemList.{mapSize}
 use Rattle.table.specs.Table.{entry}
 use Rattle.registers.specs.Register.{highFirst, registersFrom}
-use Rattle.registers.specs.Faults.{firstWord, secondWord, inMap, readFault}
-use Rattle.registers.proofs.Faults.{read-span}
-use Rattle.writes.specs.Writes.{writes, writable, each, Outside, storedAll, given, over}
-use Rattle.writes.specs.Requests.{valuePlace, dataPlace}
-use Rattle.writes.proofs.Faults.{request-allowed, write-long, counted}
+use Rattle.registers.specs.Faults.{firstWord, secondWord, inMap, readFault, dataPlace}
+use Rattle.registers.proofs.Faults.{read-span, counted}
+use Rattle.writes.specs.Writes.{writes, writable, each, storedAll}
+use Rattle.writes.specs.Requests.{valuePlace}
+use Rattle.writes.proofs.Faults.{write-allowed, write-long, several-allowed}
 use Rattle.writes.proofs.Stored.{all-given}
 use Rattle.writes.proofs.ReadBack.{length-writes, span-in-map, outside-stays, reads-back}
-use Rattle.modbus.specs.Outcome.{Outcome, otherAddress, silent, done, exception, headLength, addressOf, functionOf}
+use Rattle.modbus.specs.Outcome.{Outcome, done, exception, headLength, addressOf, functionOf}
 use Rattle.modbus.specs.Rules.{readRegisters, writeRegister, loopback, writeSeveral, readReply, reading, ours, acted}
-use Rattle.modbus.specs.Writing.{dataOf, writesOf, ToWrite, readingBack, OfWriting}
+use Rattle.settings.specs.Settings.{dataOf, writesOf, ToWrite, OfWriting}
 use Rattle.modbus.proofs.Acting.{obeying-read, acted-ours, acted-other}
 use Rattle.modbus.proofs.Laws.{every, number-leaves-table}
 
 -- ---- what a message writes
 
@@ -88,10 +88,10 @@ module _ (t : List ℤ) (address : ℕ) (body : List ℕ) where
       (λ number n h. absurd (omega arith))
       (λ f q h. none-written (inl f))
       (λ f q h. let long = write-long body q in
-      some-written valuePlace 1 (data-one body f) (omega arith) (omega arith) (omega arith) (request-allowed _ _ q .registers))
+      some-written valuePlace 1 (data-one body f) (omega arith) (omega arith) (omega arith) (write-allowed body q .registers))
       (λ f q h. none-written (inr f))
-      (λ f q h. let c = counted body (request-allowed _ _ q .form) in
-      some-written dataPlace (secondWord body) (data-several body f) (omega arith) (c .some) (c .few) (request-allowed _ _ q .registers))
+      (λ f q h. let c = counted body (several-allowed body q .form) in
+      some-written dataPlace (secondWord body) (data-several body f) (omega arith) (c .some) (c .few) (several-allowed body q .registers))
 
   is-ours : acted t address body .number ≡ none → ours address body ≡ true
   is-ours h = by (ours address body) refl
@@ -100,21 +100,14 @@ module _ (t : List ℤ) (address : ℕ) (body : List ℕ) where
       by true e = e
       by false e = absurd (let z = ap (λ (o : Outcome). o .number) (acted-other t address body e) in omega arith)
 
-  -- ---- all or none, and no entry outside the span
-
-  entry-given : acted t address body .number ≡ none → (i : ℕ) → i < length t
-      → entry (acted t address body .table) i ≡ over (entry t i) (given (writesOf body) i)
-  entry-given h i l = ap (λ (s : List ℤ). entry s i) (all-written h .stored) ∙ all-given t (writesOf body) i l
-
-  span-only : (i : ℕ) → Outside (firstWord body) (length (writesOf body)) (itemAt i .register)
-      → entry (acted t address body .table) i ≡ entry t i
-  span-only i o = by (eqb (acted t address body .number) none) refl
+  -- what holds of the table as it came, and of what a message that is given no number leaves, holds of what every message leaves
+  or-none : (Q : List ℤ → Type 0) → Q t → (acted t address body .number ≡ none → Q (acted t address body .table))
+      → Q (acted t address body .table)
+  or-none Q q w = by (eqb (acted t address body .number) none) refl
     where
-      by : (b : Bool) → eqb (acted t address body .number) none ≡ b → entry (acted t address body .table) i ≡ entry t i
-      by true e =
-          let w = all-written (eqb-true _ _ e) in
-          ap (λ (s : List ℤ). entry s i) (w .stored) ∙ outside-stays t (firstWord body) (dataOf body) i (w .registers) o
-      by false e = ap (λ (s : List ℤ). entry s i) (number-leaves-table t address body (eqb-false _ _ e))
+      by : (b : Bool) → eqb (acted t address body .number) none ≡ b → Q (acted t address body .table)
+      by true e = w (eqb-true _ _ e)
+      by false e = subst⁻¹ Q (number-leaves-table t address body (eqb-false _ _ e)) q
 
 -- ---- read back
 
@@ -139,34 +132,31 @@ module _ (t : List ℤ) (address start quantity : ℕ) (some : 1 ≤ quantity) (
       ∙ is-done (readFault asked) (exception t asked) (done (readReply t asked) t) fine
       ∙ ap₂ (λ (s n : ℕ). done (address ∷ readRegisters ∷ 2 * n ∷ registersFrom t s n) t) from many
 
--- a read of the registers that a message has written
-read-back : (t : List ℤ) (address : ℕ) (body : List ℕ) → acted t address body .number ≡ none → ToWrite body
-    → ((i : ℕ) → getD body i 0 < 256) → length t ≡ items
-    → acted (acted t address body .table) address (readingBack body)
-    ≡ done (addressOf body ∷ readRegisters ∷ length (dataOf body) ∷ dataOf body) (acted t address body .table)
-read-back t address body h w b l =
-    let written = all-written t address body h in
-    let start = firstWord body in
-    let quantity = length (writesOf body) in
-    let left = acted t address body .table in
-    let mine = eqb-true (addressOf body) address (both (leb headLength (length body)) (eqb (addressOf body) address) (is-ours t address body h) .1) in
-    let span = span-in-map start (dataOf body) (written .registers) (written .some w) in
-    let back : registersFrom left start quantity ≡ dataOf body =
-    ap (λ (s : List ℤ). registersFrom s start quantity) (written .stored)
-    ∙ reads-back t start (dataOf body) l (written .registers) (data-bytes body w b) (written .even) in
-    ap (λ (a : ℕ). acted left address (a ∷ readRegisters ∷ (highFirst start ++ highFirst quantity))) mine
-    ∙ reads left address start quantity (written .some w) (written .few) span
-    ∙ ap₂ (λ (n : ℕ) (bytes : List ℕ). done (address ∷ readRegisters ∷ n ∷ bytes) left) (sym (written .even)) back
-    ∙ ap (λ (a : ℕ). done (a ∷ readRegisters ∷ length (dataOf body) ∷ dataOf body) left) (sym mine)
-
 -- ---- the claim
 
 pub writing-claimed : (t : List ℤ) (address : ℕ) (body : List ℕ) → OfWriting t address body
 writing-claimed t address body =
+    let left = acted t address body .table in
+    let written = all-written t address body in
     record {
-      refusedLeaves = number-leaves-table t address body;
-      allStored = λ h. all-written t address body h .stored;
-      entryGiven = entry-given t address body;
-      outsideStays = span-only t address body;
-      readsBack = read-back t address body;
+      refusedLeaves = λ h. number-leaves-table t address body h;
+      allStored = λ h. written h .stored;
+      entryGiven = λ h i l. ap (λ (s : List ℤ). entry s i) (written h .stored) ∙ all-given t (writesOf body) i l;
+      outsideStays = λ i o.
+          or-none t address body (λ (s : List ℤ). entry s i ≡ entry t i) refl
+          (λ h. ap (λ (s : List ℤ). entry s i) (written h .stored)
+          ∙ outside-stays t (firstWord body) (dataOf body) i (written h .registers) o);
+      readsBack = λ h w b l.
+          let start = firstWord body in
+          let quantity = length (writesOf body) in
+          let mine : addressOf body ≡ address =
+          eqb-true (addressOf body) address (both (leb headLength (length body)) (eqb (addressOf body) address) (is-ours t address body h) .1) in
+          let span = span-in-map start (dataOf body) (written h .registers) (written h .some w) in
+          let back : registersFrom left start quantity ≡ dataOf body =
+          ap (λ (s : List ℤ). registersFrom s start quantity) (written h .stored)
+          ∙ reads-back t start (dataOf body) l (written h .registers) (data-bytes body w b) (written h .even) in
+          ap (λ (a : ℕ). acted left address (a ∷ readRegisters ∷ (highFirst start ++ highFirst quantity))) mine
+          ∙ reads left address start quantity (written h .some w) (written h .few) span
+          ∙ ap₂ (λ (n : ℕ) (bytes : List ℕ). done (address ∷ readRegisters ∷ n ∷ bytes) left) (sym (written h .even)) back
+          ∙ ap (λ (a : ℕ). done (a ∷ readRegisters ∷ length (dataOf body) ∷ dataOf body) left) (sym mine);
     }

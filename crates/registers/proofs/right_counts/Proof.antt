@@ -1,15 +1,15 @@
--- `writes::right_counts` meets its contract: a body that is too short to have a byte count has the wrong length. Assumes nothing.
-use mathlib.Core.Path.{_≡_}
+-- `registers::right_counts` meets its contract: a body that is too short to have a byte count has the wrong length. Assumes nothing.
 use Prim.Native.Nat.{_+_}
 use native.Mathlib.Omega.{arith}
 use borrow.Author.Tests.{ne-eqb}
 use lib.ListN.{length}
-use Rattle.writes.specs.Requests.{dataPlace, byteCount}
+use Rattle.registers.specs.Faults.{dataPlace, byteCount, rightCounts}
 use borrow.Author.Needs.{needs}
-use Rattle.writes.proofs.right_counts.Statement.{statement}
-use Rattle.writes.proofs.right_counts.Tie as tie
+use Rattle.registers.proofs.right_counts.Statement.{statement}
+use Rattle.registers.proofs.right_counts.Tie as tie
 
 returns : tie.Need-returns
+unfolding rightCounts
 returns c =
     let body = c .before .before .args .body .now in
     rw (ne-eqb (length body) (dataPlace + byteCount body) (λ z. omega arith))
@@ -33,6 +33,7 @@ mul-result : tie.Need-mul-result
 mul-result c = search needs
 
 returns-2 : tie.Need-returns-2
+unfolding rightCounts
 returns-2 c = rw (c .before .second-word .ensures)
 
 pub right-counts-spec : {M : Type 1} → statement M

@@ -1,5 +1,5 @@
--- What is claimed of every message, so of those that write: all or none, no entry outside the span, and that what was written reads
--- back.
+-- What a message sets, and what is claimed of it: all of its values are stored or none, no entry outside its span moves, and what was
+-- written reads back. The claims are of the rules for a message, so they hold on every line that hands its messages to them.
 use Prim.Native.Nat.{ℕ, _<_}
 use mathlib.Core.Path.{_≡_}
 use mathlib.Core.Logic.{_≢_, _⊎_}
@@ -12,11 +12,11 @@ use Rattle.numbers.specs.Numbers.{none}
 use Rattle.items.specs.ItemList.{items, itemAt}
 use Rattle.table.specs.Table.{entry}
 use Rattle.registers.specs.Register.{highFirst}
-use Rattle.registers.specs.Faults.{firstWord}
+use Rattle.registers.specs.Faults.{firstWord, dataPlace}
 use Rattle.writes.specs.Writes.{Write, writes, Outside, storedAll, given, over}
-use Rattle.writes.specs.Requests.{valuePlace, dataPlace}
+use Rattle.writes.specs.Requests.{valuePlace}
 use Rattle.modbus.specs.Outcome.{done, addressOf, functionOf}
 use Rattle.modbus.specs.Rules.{readRegisters, writeRegister, writeSeveral, acted}
 
 -- the bytes of data that a message brings to be written: the value of 06H, the data of 10H, none by any other function
 abbrev pub dataOf : List ℕ → List ℕ
