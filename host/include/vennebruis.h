@@ -104,9 +104,9 @@ enum vb_number {
     VB_OTHER_ADDRESS = 23, /* the frame is for somebody else */
 
     /* A Modbus request is refused: the reply is an exception of 5 bytes, the table stays. */
-    VB_UNKNOWN_FUNCTION = 31, /* exception 1: a function other than 03H, 06H, 08H */
+    VB_UNKNOWN_FUNCTION = 31, /* exception 1: a function other than 03H, 06H, 08H, 10H */
     VB_WRONG_REGISTER = 32,   /* exception 2: outside the map, or not writable */
-    VB_WRONG_DATA = 33,       /* exception 3: length, quantity, test code or value */
+    VB_WRONG_DATA = 33,       /* exception 3: length, quantity, byte count, test code or value */
 
     /* An RKC poll ends: the reply is EOT, the link rests, the table stays. */
     VB_NOT_BELONGING = 41,  /* a byte that does not belong into a poll */
@@ -257,8 +257,11 @@ uint32_t vb_idle(uint8_t *state, uint64_t sn, uint8_t *reply, uint64_t rn, uint8
  *
  * Gives 0, 1 to 4, 21 to 23 or 31 to 33. 03H, 06H and 08H ask for a frame of 8 bytes first (33);
  * 03H then tries the quantity (33) before the registers (32), 06H the register (32) before the
- * value (33). The table changes in one entry where 06H gives 0, and stays otherwise. With 1 to 4
- * and 21 to 23 there is no reply. */
+ * value (33). 10H asks for a quantity of 1 to 123, a byte count of twice that and a frame of nine
+ * bytes more (33), then tries every register of its span (32) before any value (33). The table
+ * changes in one entry where 06H gives 0 and in one for each register where 10H does, and stays
+ * otherwise: no setting of a message is stored before all of them are judged. With 1 to 4 and 21 to
+ * 23 there is no reply. */
 uint32_t vb_rtu(int32_t *table, uint64_t tn, uint8_t *reply, uint64_t rn, uint8_t address,
                 const uint8_t *frame, uint64_t fn);
 
