@@ -43,18 +43,18 @@ reading table body = unlessMet (readFault body) (exception table body) (done (re
 unfoldable pub writing : List ℤ → List ℕ → Outcome
 writing table body = unlessMet (writeFault body) (exception table body) (done body (storedAll table (writesFrom valuePlace body)))
 
--- ---- 10H: a register to start from, a quantity, a byte count, and the data of the registers
+-- ---- 08H: a test code and data
+
+-- the reply equals the request here too
+unfoldable pub loopingBack : List ℤ → List ℕ → Outcome
+loopingBack table body = unlessMet (loopbackFault body) (exception table body) (done body table)
+
+-- ---- 10H: a register to start from, a quantity, a byte count, and the values of the registers
 
 -- the reply repeats start and quantity, all that stands in front of the byte count
 unfoldable pub writingSeveral : List ℤ → List ℕ → Outcome
 writingSeveral table body =
     unlessMet (severalFault body) (exception table body) (done (take countPlace body) (storedAll table (writesFrom dataPlace body)))
-
--- ---- 08H: a test code and data
-
--- the reply equals the request, as of a write of one register
-unfoldable pub loopingBack : List ℤ → List ℕ → Outcome
-loopingBack table body = unlessMet (loopbackFault body) (exception table body) (done body table)
 
 -- ---- any message
 

@@ -142,21 +142,6 @@ fn write(table: &mut [i32], reply: &mut [u8], body: &[u8]) -> Answered
     echo(reply, body)
 }
 
-// ---- 10H: a register to start from, a quantity, a byte count, and the data of the registers
-
-// Several registers are written.
-fn write_several(table: &mut [i32], reply: &mut [u8], body: &[u8]) -> Answered
-    requires { ⌜ Ready (now reply) (now body) ⌝ }
-    ensures { λ r. ⌜ Gives (writingSeveral (now (table .entry)) (now (body .entry)))
-        r (now (reply .entry)) (now (reply .exit)) (now (table .exit)) ⌝ }
-{
-    let fault = writes::write_several(table, body);
-    if fault != NONE {
-        return exception(reply, body, fault);
-    }
-    echo(reply, &body[..COUNT_PLACE])
-}
-
 // ---- 08H: a test code and data
 
 // The request comes back.
@@ -170,6 +155,21 @@ fn loop_back(reply: &mut [u8], body: &[u8]) -> Answered
         return exception(reply, body, fault);
     }
     echo(reply, body)
+}
+
+// ---- 10H: a register to start from, a quantity, a byte count, and the values of the registers
+
+// Several registers are written.
+fn write_several(table: &mut [i32], reply: &mut [u8], body: &[u8]) -> Answered
+    requires { ⌜ Ready (now reply) (now body) ⌝ }
+    ensures { λ r. ⌜ Gives (writingSeveral (now (table .entry)) (now (body .entry)))
+        r (now (reply .entry)) (now (reply .exit)) (now (table .exit)) ⌝ }
+{
+    let fault = writes::write_several(table, body);
+    if fault != NONE {
+        return exception(reply, body, fault);
+    }
+    echo(reply, &body[..COUNT_PLACE])
 }
 
 // ---- any message

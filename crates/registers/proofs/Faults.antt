@@ -85,6 +85,28 @@ read-accepted body e =
       span = leb-true _ _ (c .0);
     }
 
+-- ---- 08H
+
+module _ (body : List ℕ) where
+  pub loopback-numbered : Numbered (loopbackFault body)
+  unfolding loopbackFault
+  loopback-numbered =
+      either-first _ _ Numbered (data-numbered (rightLength body))
+      (either-first _ _ Numbered (data-numbered (eqb (firstWord body) 0)) none-numbered)
+
+  pub loopback-length : (length body ≡ bodyLength → ⊥) → loopbackFault body ≡ wrongData
+  unfolding loopbackFault
+  loopback-length h = rw (ne-eqb (length body) bodyLength h)
+
+  pub loopback-coded : length body ≡ bodyLength → {b : Bool} → b ≡ eqb (firstWord body) 0
+      → loopbackFault body ≡ unless b wrongData
+  unfolding loopbackFault
+  loopback-coded h e = rw (eq-eqb (length body) bodyLength h, ← e) (last-met _)
+
+  pub loopback-accepted : loopbackFault body ≡ none → length body ≡ bodyLength
+  unfolding loopbackFault
+  loopback-accepted e = eqb-true _ _ (passed (rightLength body) wrongData _ (omega arith) e .0)
+
 -- ---- 10H
 
 -- length, quantity and byte count agree
@@ -109,25 +131,3 @@ counted body r =
       few = leb-true _ _ (f .1);
       twice = eqb-true _ _ (t .1);
     }
-
--- ---- 08H
-
-module _ (body : List ℕ) where
-  pub loopback-numbered : Numbered (loopbackFault body)
-  unfolding loopbackFault
-  loopback-numbered =
-      either-first _ _ Numbered (data-numbered (rightLength body))
-      (either-first _ _ Numbered (data-numbered (eqb (firstWord body) 0)) none-numbered)
-
-  pub loopback-length : (length body ≡ bodyLength → ⊥) → loopbackFault body ≡ wrongData
-  unfolding loopbackFault
-  loopback-length h = rw (ne-eqb (length body) bodyLength h)
-
-  pub loopback-coded : length body ≡ bodyLength → {b : Bool} → b ≡ eqb (firstWord body) 0
-      → loopbackFault body ≡ unless b wrongData
-  unfolding loopbackFault
-  loopback-coded h e = rw (eq-eqb (length body) bodyLength h, ← e) (last-met _)
-
-  pub loopback-accepted : loopbackFault body ≡ none → length body ≡ bodyLength
-  unfolding loopbackFault
-  loopback-accepted e = eqb-true _ _ (passed (rightLength body) wrongData _ (omega arith) e .0)

@@ -50,9 +50,19 @@ readFault body =
     ∷ unless (inMap (firstWord body) (secondWord body)) wrongRegister
     ∷ [])
 
+-- ---- 08H: a test code and data
+
+-- the length, then the test code
+unfoldable pub loopbackFault : List ℕ → ℕ
+loopbackFault body =
+    firstMet
+    (unless (rightLength body) wrongData
+    ∷ unless (eqb (firstWord body) 0) wrongData
+    ∷ [])
+
 -- ---- 10H: a register to start from, a quantity, a byte count, and the values of the registers
 
--- the data stands behind the byte count, which stands behind the quantity
+-- the values stand behind the byte count, which stands behind the quantity
 abbrev pub countPlace : ℕ
 countPlace = 6
 
@@ -72,13 +82,3 @@ unfoldable pub rightCounts : List ℕ → Bool
 rightCounts body =
     eqb (length body) (dataPlace + byteCount body) && leb 1 (secondWord body) && leb (secondWord body) mostWritten
     && eqb (byteCount body) (2 * secondWord body)
-
--- ---- 08H: a test code and data
-
--- the length, then the test code
-unfoldable pub loopbackFault : List ℕ → ℕ
-loopbackFault body =
-    firstMet
-    (unless (rightLength body) wrongData
-    ∷ unless (eqb (firstWord body) 0) wrongData
-    ∷ [])

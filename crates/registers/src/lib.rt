@@ -97,6 +97,19 @@ pub fn read_fault(body: &[u8]) -> u8
     }
 }
 
+// ---- 08H: a test code and data
+
+// The fault of a loopback, 0 for none.
+pub fn loopback_fault(body: &[u8]) -> u8
+    ensures { λ r. ⌜ r ≡ loopbackFault (now (body .entry)) ⌝ }
+{
+    if body.len() == BODY_LENGTH && first_word(body) == 0 {
+        NONE
+    } else {
+        WRONG_DATA
+    }
+}
+
 // ---- 10H: a register to start from, a quantity, a byte count, and the values of the registers
 
 // Where in a body the byte count stands, and behind it the values.
@@ -120,17 +133,4 @@ pub fn right_counts(body: &[u8]) -> bool
         & (1 <= quantity)
         & (quantity <= MOST_WRITTEN)
         & (count == 2 * quantity as usize)
-}
-
-// ---- 08H: a test code and data
-
-// The fault of a loopback, 0 for none.
-pub fn loopback_fault(body: &[u8]) -> u8
-    ensures { λ r. ⌜ r ≡ loopbackFault (now (body .entry)) ⌝ }
-{
-    if body.len() == BODY_LENGTH && first_word(body) == 0 {
-        NONE
-    } else {
-        WRONG_DATA
-    }
 }

@@ -115,7 +115,7 @@ module _ (body : List ℕ) where
   unfolding severalFault
   several-allowed = request-allowed (rightCounts body) (writesFrom dataPlace body)
 
--- then there are as many writes as the quantity says
+-- where length, quantity and byte count agree, there are as many writes as the quantity says
 pub several-writes : (body : List ℕ) → Counted body → length (writesFrom dataPlace body) ≡ secondWord body
 several-writes body c =
     let bytes = length-drop dataPlace body in

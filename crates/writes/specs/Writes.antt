@@ -67,7 +67,7 @@ pub data Given : Type 0 where
   Value : ℤ → Given
   Nothing : Given
 
--- of two gifts the later one, where it is one
+-- what is given later, and where that is nothing what was given before
 abbrev pub later : Given → Given → Given
 later (Value v) before = Value v
 later Nothing before = before
@@ -79,5 +79,5 @@ given (w ∷ ws) i = later (given ws i) (cond (eqb (w .place) i) (Value (w .valu
 
 -- what an entry becomes by what it is given
 abbrev pub over : ℤ → Given → ℤ
-over v (Value given) = given
+over v (Value new) = new
 over v Nothing = v
