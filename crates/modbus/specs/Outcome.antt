@@ -12,7 +12,7 @@ pub record Outcome : Type 0 where
   pub reply : List ℕ
   pub table : List ℤ
 
--- the numbers given back here, beside `none` and those of the three faults
+-- the numbers given back here, beside `none` and those of the functions' faults
 abbrev pub otherAddress : ℕ
 otherAddress = 23
 

@@ -15,7 +15,7 @@ wrongRegister = 32
 abbrev pub wrongData : ℕ
 wrongData = 33
 
--- the body of each of the three functions has this length, its frame two more
+-- the body of 03H, 06H and 08H has this length, its frame two more
 abbrev pub bodyLength : ℕ
 bodyLength = 6
 

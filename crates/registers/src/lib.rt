@@ -1,4 +1,5 @@
-// What the body of a message asks for: its two words, the registers they name, and the fault that each function meets.
+// What the body of a message asks for: its two words, the registers they name, the fault that a read or a loopback meets, and the form
+// of a write of several registers.
 ghost use mathlib.Core.Path.{_≡_};
 ghost use lib.ListN.{getD};
 ghost use Rattle.registers.specs.Register.{toRegister, ofRegister, word, registerAt};
@@ -12,7 +13,7 @@ pub const WRONG_REGISTER: u8 = 32;
 
 pub const WRONG_DATA: u8 = 33;
 
-// The length of a body, and the most registers that one message reads.
+// The length of a body of 03H, 06H and 08H, and the most registers that one message reads.
 pub const BODY_LENGTH: usize = 6;
 
 const MOST_REGISTERS: u16 = 125;
