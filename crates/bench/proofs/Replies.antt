@@ -10,7 +10,7 @@ use lib.Seq.{length-sets}
 use Rattle.rkc.specs.declared.Stepped.{Stepped}
 use Rattle.rkc.specs.Outcome.{ByteCall, received}
 use Rattle.rkc.specs.Promise.{Leads}
-use Rattle.rkc.proofs.EachReply.{received-short}
+use Rattle.demands.proofs.EachReply.{received-short}
 
 -- what was lent at least 11 bytes still holds the whole reply
 pub within-buffer : (call : ByteCall) {r : Stepped} {after : List ℕ} {table : List ℤ} → Leads call r after table → 11 ≤ length (call .buffer)

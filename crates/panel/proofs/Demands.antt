@@ -13,10 +13,10 @@ use Rattle.crc.specs.Crc.{Bytes}
 use Rattle.rkc.specs.declared.Link.{Link}
 use Rattle.table.specs.Table.{entry}
 use Rattle.rkc.specs.Outcome.{Step, Outcome, handedBack, ByteCall, byteFault, received, IdleCall, idleFault, idled}
-use Rattle.rkc.specs.Numbers.{oneOf, byteFaults, byteNumbers, idleFaults, idleNumbers}
+use Rattle.demands.specs.Numbers.{oneOf, byteFaults, byteNumbers, idleFaults, idleNumbers}
 use Rattle.rkc.proofs.Cases.{received-fault, idled-fault}
-use Rattle.rkc.proofs.Given.{allPass, one-passes, byte-faults, idle-faults}
-use Rattle.rkc.proofs.Demands.{demand-1-byte, demand-1-idle}
+use Rattle.demands.proofs.Given.{allPass, one-passes, byte-faults, idle-faults}
+use Rattle.demands.proofs.Demands.{demand-1-byte, demand-1-idle}
 use Rattle.state.specs.State.{unpacked, packed}
 use Rattle.state.proofs.Carries.{byte-carries, idle-carries}
 use Rattle.panel.specs.Calls.{isCallFault}

@@ -11,9 +11,9 @@ use Rattle.numbers.specs.Numbers.{none}
 use Rattle.numbers.proofs.Tests.{contrary}
 use Rattle.rkc.specs.State.{inPhase, inLimits}
 use Rattle.rkc.specs.Outcome.{Step, Outcome, ByteCall, byteFault, received, IdleCall, idleFault, idled}
-use Rattle.rkc.specs.Numbers.{byteFaults, idleFaults}
+use Rattle.demands.specs.Numbers.{byteFaults, idleFaults}
 use Rattle.rkc.proofs.Cases.{step-none, byte-none}
-use Rattle.rkc.proofs.Given.{one-passes, byte-faults, idle-faults}
+use Rattle.demands.proofs.Given.{one-passes, byte-faults, idle-faults}
 use Rattle.state.specs.State.{stateBytes, fields, unknownPhase, unpacked}
 use Rattle.panel.specs.Calls.{isCallFault}
 

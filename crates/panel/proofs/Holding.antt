@@ -11,7 +11,7 @@ use Rattle.rkc.specs.declared.Link.{Link}
 use Rattle.rkc.specs.declared.Stepped.{Stepped}
 use Rattle.rkc.specs.Outcome.{Step, ByteCall, received, IdleCall, idled}
 use Rattle.rkc.specs.Promise.{Steps, Leads, Idles}
-use Rattle.rkc.proofs.EachReply.{received-short, idled-short}
+use Rattle.demands.proofs.EachReply.{received-short, idled-short}
 use Rattle.state.specs.State.{stateBytes, unpacked}
 use Rattle.panel.specs.Calls.{isCallFault}
 use Rattle.panel.specs.Promise.{longestReply, Holdable, Held, StepLeft, ByteLeft}

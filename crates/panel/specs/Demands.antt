@@ -10,7 +10,7 @@ use Rattle.numbers.specs.Numbers.{none}
 use Rattle.items.specs.ItemList.{itemAt, inRange}
 use Rattle.table.specs.Table.{entry}
 use Rattle.rkc.specs.Outcome.{ByteCall, byteFault, received, IdleCall, idleFault, idled}
-use Rattle.rkc.specs.Numbers.{oneOf, byteFaults, byteNumbers, idleFaults, idleNumbers}
+use Rattle.demands.specs.Numbers.{oneOf, byteFaults, byteNumbers, idleFaults, idleNumbers}
 use Rattle.state.specs.State.{unpacked}
 
 -- the number in a result

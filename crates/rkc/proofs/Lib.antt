@@ -2,9 +2,4 @@ pub mod Lists
 pub mod Used
 pub mod Cases
 pub mod Limits
-pub mod EachReply
-pub mod Fits
-pub mod Given
-pub mod Demands
-pub mod PollingOn
 pub mod Single

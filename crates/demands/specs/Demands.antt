@@ -12,12 +12,12 @@ use Rattle.items.specs.ItemList.{itemAt, found, inRange}
 use Rattle.table.specs.Table.{goodTable, entry, M1, AA, AB, A1, A2}
 use Rattle.line.specs.Line.{ENQ, within, printable, keeps, sent, heard}
 use Rattle.phases.specs.Phases.{addressed, waiting}
 use Rattle.rkc.specs.declared.Stepped.{Stepped}
 use Rattle.rkc.specs.State.{inPhase, holdingOne, waitingOn, inLimits}
 use Rattle.rkc.specs.Outcome.{Step, keeping, silent, noRoom, dataReply, itemSent, polled}
 use Rattle.rkc.specs.Outcome.{ByteCall, byteFault, received, IdleCall, idleFault, idled}
-use Rattle.rkc.specs.Numbers.{oneOf, byteFaults, byteNumbers, byteExamples, idleFaults, idleNumbers, idleExamples}
+use Rattle.demands.specs.Numbers.{oneOf, byteFaults, byteNumbers, byteExamples, idleFaults, idleNumbers, idleExamples}
 use Rattle.rkc.specs.Promise.{Leads, Idles}
 
 -- every byte keeps the line structure
 abbrev pub allKeep : ℕ → List ℕ → Bool

@@ -26,13 +26,13 @@ use Rattle.phases.specs.declared.Act.{Act}
 use Rattle.phases.proofs.Acts.{every-act}
 use Rattle.block.specs.Block.{lineError, outOfRange, blockItem, blockValue, blockNumber}
 use Rattle.block.proofs.Laws.{Refusing, block-refuses}
 use Rattle.rkc.specs.declared.Link.{Link}
 use Rattle.rkc.specs.State.{used, inLimits}
 use Rattle.rkc.specs.Outcome.{Outcome, polled, refusing, judged, performed, asked, badState}
 use Rattle.rkc.specs.Outcome.{stepFault, goodSettings, ByteCall, byteFault, received, IdleCall, idleFault, idled}
-use Rattle.rkc.specs.Numbers.{oneOf, byteFaults, byteNumbers, byteExamples, idleFaults, idleExamples}
-use Rattle.rkc.specs.Demands.{OfNumbers}
-use Rattle.rkc.proofs.Fits.{always-sent}
+use Rattle.demands.specs.Numbers.{oneOf, byteFaults, byteNumbers, byteExamples, idleFaults, idleExamples}
+use Rattle.demands.specs.Demands.{OfNumbers}
+use Rattle.demands.proofs.Fits.{always-sent}
 
 -- a test that each of some numbers passes, passes for one of them
 abbrev pub allPass : (ℕ → Bool) → List ℕ → Bool

@@ -17,13 +17,13 @@ use Rattle.phases.specs.Phases.{addressed, waiting}
 use Rattle.phases.specs.declared.Act.{Act}
 use Rattle.phases.specs.declared.Act.the-variants.{First}
 use Rattle.phases.proofs.Identifier.{first-waiting, first-addressed, second-character, enquiry}
 use Rattle.rkc.specs.declared.Link.{Link}
 use Rattle.rkc.specs.State.{holdingOne, holdingTwo, asBlock, used}
 use Rattle.rkc.specs.Outcome.{Outcome, keeping, silent, performed, asked, ByteCall, byteFault, received, idleFault, passed, idled}
-use Rattle.rkc.specs.Demands.{nextByte, came, PollsOn, afterAddress, idleAfter, OfPollingOn}
+use Rattle.demands.specs.Demands.{nextByte, came, PollsOn, afterAddress, idleAfter, OfPollingOn}
 use Rattle.rkc.proofs.Cases.{step-fine, byte-none, byte-fine, received-act, idled-fine}
 use Rattle.rkc.proofs.Limits.{in-phase-limits}
-use Rattle.rkc.proofs.Demands.{demand-1-byte}
+use Rattle.demands.proofs.Demands.{demand-1-byte}
 
 -- ---- behind a call that led to a state in silence
 

@@ -28,17 +28,17 @@ use Rattle.phases.specs.Limits.{Limited}
 use Rattle.phases.specs.declared.Act.{Act}
 use Rattle.phases.specs.declared.Act.the-variants.{Go, First, Both, More, Ended, Quit, Poll, Send, Judge}
 use Rattle.block.proofs.Laws.{block-stores}
 use Rattle.rkc.specs.declared.Link.{Link}
 use Rattle.rkc.specs.State.{used, inLimits}
 use Rattle.rkc.specs.Outcome.{Step, Outcome, keeping, silent, quit, dataReply, itemSent, refusing, judged, performed, asked, handedBack, done}
 use Rattle.rkc.specs.Outcome.{ByteCall, byteFault, received, IdleCall, elapsed, patience, timedOut, idleFault, passed, idled}
 use Rattle.rkc.specs.Promise.{Steps, Does}
-use Rattle.rkc.specs.Numbers.{oneOf, byteNumbers, idleNumbers}
-use Rattle.rkc.specs.Demands.{allKeep, nextByte, OfByte, OfIdle, stateText, OfAlarms}
+use Rattle.demands.specs.Numbers.{oneOf, byteNumbers, idleNumbers}
+use Rattle.demands.specs.Demands.{allKeep, nextByte, OfByte, OfIdle, stateText, OfAlarms}
 use Rattle.rkc.proofs.Cases.{FineStep, step-none, step-fine, byte-none, byte-fine, received-fault, received-fine, idled-fault}
 use Rattle.rkc.proofs.Limits.{used-small, asked-limited, performed-limits, used-in-limits}
-use Rattle.rkc.proofs.EachReply.{received-reply, idled-reply}
-use Rattle.rkc.proofs.Given.{one-passes, byte-faults, idle-faults, act-numbers}
+use Rattle.demands.proofs.EachReply.{received-reply, idled-reply}
+use Rattle.demands.proofs.Given.{one-passes, byte-faults, idle-faults, act-numbers}
 
 -- ---- what an act leaves of the table
 

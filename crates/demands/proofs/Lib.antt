@@ -1,0 +1,5 @@
+pub mod EachReply
+pub mod Fits
+pub mod Given
+pub mod Demands
+pub mod PollingOn
