@@ -28,7 +28,7 @@ static const struct row meanings[] = {
     {23, "for another address"},
     {31, "exception 1, unknown function"},
     {32, "exception 2, no such register, or not to be written"},
-    {33, "exception 3, value, quantity, test code or length not allowed"},
+    {33, "exception 3, value, quantity, byte count, test code or length not allowed"},
     {41, "character that does not belong in a poll"},
     {42, "poll of an unknown identifier"},
     {43, "after a reply neither ACK, NAK, EOT nor the start of another poll"},

@@ -56,8 +56,7 @@ fn to_register(value: i32) -> u16
     (((value as i64) + 4294967296) as u64 % 65536) as u16
 }
 
-// The value that a register holds: from 8000H up it is below zero. The other half of the circle is taken off, which the compiler makes
-// one instruction.
+// The value that a register holds: from 8000H up it is below zero. Turning the circle by half and back tells that without a branch.
 pub fn of_register(register: u16) -> i32
     ensures { λ r. ⌜ r ≡ ofRegister register ⌝ }
 {

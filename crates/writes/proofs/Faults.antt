@@ -21,13 +21,6 @@ use Rattle.writes.specs.Requests.{writesFrom, valuePlace, writeFault, se
 use Rattle.writes.proofs.ReadBack.{length-writes}
 
 module _ (right : Bool) (ws : List Write) where
-  pub request-numbered : Numbered (requestFault right ws)
-  unfolding requestFault
-  request-numbered =
-      either-first _ _ Numbered (data-numbered right)
-      (either-first _ _ Numbered (register-numbered (each writable ws))
-      (either-first _ _ Numbered (data-numbered (each inside ws)) none-numbered))
-
   pub form-wrong : right ≡ false → requestFault right ws ≡ wrongData
   unfolding requestFault
   form-wrong f = rw f
@@ -40,6 +33,13 @@ module _ (right : Bool) (ws : List Write) where
       → requestFault right ws ≡ unless b wrongData
   unfolding requestFault
   registers-right f w e = rw (f, w, ← e) (last-met _)
+
+  pub request-numbered : Numbered (requestFault right ws)
+  unfolding requestFault
+  request-numbered =
+      either-first _ _ Numbered (data-numbered right)
+      (either-first _ _ Numbered (register-numbered (each writable ws))
+      (either-first _ _ Numbered (data-numbered (each inside ws)) none-numbered))
 
   -- what a request that meets no fault is
   pub record Allowed : Type 0 where

@@ -6,7 +6,7 @@ use Rattle.numbers.proofs.Single.{lent-single, _&_}
 use Rattle.writes.proofs as writes
 
 pub write-one : OneOutcome writes.write_one.ended writes.write_one.Reads.Asked writes.write_one.Reads.Post
-write-one = record { asksNothing = λ κs a. tt; single = λ κs a o u p q. lent-single p q .0 & lent-single p q .1 & refl }
+write-one = record { asksNothing = λ κs a. tt; single = λ κs a o u p q. let e = lent-single p q in e .0 & e .1 & refl }
 
 pub write-several : OneOutcome writes.write_several.ended writes.write_several.Reads.Asked writes.write_several.Reads.Post
-write-several = record { asksNothing = λ κs a. tt; single = λ κs a o u p q. lent-single p q .0 & lent-single p q .1 & refl }
+write-several = record { asksNothing = λ κs a. tt; single = λ κs a o u p q. let e = lent-single p q in e .0 & e .1 & refl }

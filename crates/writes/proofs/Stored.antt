@@ -43,10 +43,6 @@ all-given t (w ∷ ws) i h =
     by (Value v) = refl
     by Nothing = refl
 
-pub all-length : (t : List ℤ) (ws : List Write) → length (storedAll t ws) ≡ length t
-all-length t [] = refl
-all-length t (w ∷ ws) = all-length (stored t (w .place) (w .value)) ws ∙ stored-length t (w .place) (w .value)
-
 -- ---- writes that are allowed
 
 -- they leave the read-only items

@@ -4,7 +4,6 @@ use mathlib.Core.Path.{sym, _∙_}
 use native.Mathlib.Omega.{arith}
 use lib.ListN.{length-take}
 use lib.Seq.{length-take-le}
-use Rattle.registers.specs.Faults.{countPlace}
 use Rattle.registers.proofs.Faults.{numbered-of, Counted, counted}
 use Rattle.writes.proofs.Faults.{left-none, left-all, several-numbered, several-allowed}
 use Rattle.modbus.specs.Rules.{writingSeveral}
@@ -43,12 +42,10 @@ slice-aggregate-echo : tie.Need-slice-aggregate-echo
 slice-aggregate-echo c =
     let f = c .before .before in
     let k = counts f in
-    sym (length-take-le countPlace (f .before .before .before .before .before .before .args .body .now) (omega arith))
+    sym (length-take-le _ (f .before .before .before .before .before .before .args .body .now) (omega arith))
 
 echo-requires : tie.Need-echo-requires
-echo-requires c κs =
-    let body = c .before .before .before .before .before .before .before .before .args .body .now in
-    omega (arith, length-take countPlace body)
+echo-requires c κs = simp length-take (omega arith)
 
 same-length-3 : tie.Need-same-length-3
 same-length-3 c = search needs
