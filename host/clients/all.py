@@ -4,7 +4,9 @@ import signal
 import sys
 
 import modbus_checks
+import playback_checks
 import program_checks
+import record_checks
 import rkc_checks
 from checks import Checks
 from mbpoll_client import Mbpoll
@@ -25,6 +27,8 @@ def main():
         program_checks.run(checks, command)
         modbus_checks.run(checks, command, Mbpoll)
         modbus_checks.run(checks, command, Pymodbus)
+        record_checks.run(checks, command, (Mbpoll, Pymodbus))
+        playback_checks.run(checks, command)
         rkc_checks.run(checks, command)
     except SystemExit:
         checks.fail("the rest", "broken off")

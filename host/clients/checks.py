@@ -1,10 +1,12 @@
-"""Counting of checks, and the simulator as a process that never outlives them."""
+"""Counting of checks, runs of a program, and the simulator as a process that never outlives
+them."""
 
 import contextlib
 import select
 import subprocess
 
 START_SECONDS = 5
+STEP_SECONDS = 5
 END_SECONDS = 5
 
 
@@ -39,6 +41,19 @@ class Checks:
 
     def total(self):
         print(f"{self.passed} passed, {self.failed} failed", flush=True)
+
+
+def run_once(command, words):
+    """A run that ends at once: its status, standard output and standard error."""
+    done = subprocess.run(
+        [*command, *words],
+        stdin=subprocess.DEVNULL,
+        capture_output=True,
+        text=True,
+        timeout=STEP_SECONDS,
+        check=False,
+    )
+    return done.returncode, done.stdout, done.stderr
 
 
 class Simulator:

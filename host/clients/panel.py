@@ -52,6 +52,11 @@ def registers_of(values):
     return [register_of(value) for value in values]
 
 
+def value_of(register):
+    """The value that a register holds."""
+    return register - 0x10000 if register >= 0x8000 else register
+
+
 def start_registers():
     """The whole map at the start; unlisted registers read 0."""
     registers = [0] * MAP_LENGTH

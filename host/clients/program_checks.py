@@ -4,14 +4,11 @@ link, and what it shows."""
 import contextlib
 import os
 import pty
-import subprocess
 import tempfile
 import termios
 
-from checks import Simulator
+from checks import Simulator, run_once
 from rkc_host import Host, open_port
-
-STEP_SECONDS = 5
 
 BAD_COMMAND_LINES = (
     "",
@@ -23,6 +20,7 @@ BAD_COMMAND_LINES = (
     "rtu --structure 1",
     "rtu --baud 9601",
     "rtu --silence 0",
+    "rkc --record capture",
     "rtu --unheard-of",
 )
 
@@ -33,26 +31,13 @@ ANSWER = bytes.fromhex("06 02 50 42 2D 30 38 2E 30 30 03 1A")
 LOOPBACK = bytes.fromhex("01 08 00 00 1F 34 E9 EC")
 
 
-def run_once(command, words):
-    """A run that ends at once: its status, standard output and standard error."""
-    done = subprocess.run(
-        [*command, *words.split()],
-        stdin=subprocess.DEVNULL,
-        capture_output=True,
-        text=True,
-        timeout=STEP_SECONDS,
-        check=False,
-    )
-    return done.returncode, done.stdout, done.stderr
-
-
 def command_line(checks, command):
     for words in BAD_COMMAND_LINES:
-        status, output, message = run_once(command, words)
+        status, output, message = run_once(command, words.split())
         checks.same(f'"{words}" is refused', (status, output, message != ""), (2, "", True))
-    status, output, message = run_once(command, "--help")
+    status, output, message = run_once(command, ["--help"])
     checks.same("--help", (status, "usage:" in output, message), (0, True, ""))
-    status, output, message = run_once(command, "rtu no-such-device")
+    status, output, message = run_once(command, ["rtu", "no-such-device"])
     checks.same("a device that is not there", (status, output, message != ""), (1, "", True))
 
 

@@ -1,6 +1,7 @@
 #!/bin/sh
-# Tries real clients on the simulator: run.sh COMMAND.., the words that start it. A line for each
-# check; the last line is `N passed, M failed`, and the status is not 0 where a check failed.
+# Tries real clients on the simulator: run.sh COMMAND.., the words that start it. The program
+# panel-playback stands beside it. A line for each check; the last line is `N passed, M failed`, and
+# the status is not 0 where a check failed.
 set -u
 
 # All checks together take a fraction of this; it ends a run in which something hangs.

@@ -67,6 +67,9 @@ extern "C" {
 #define VB_REPLY_BYTES 256
 #define VB_TEXT_BYTES 6
 
+/* The most that a capture has, in bytes. */
+#define VB_CAPTURE_BYTES 65536
+
 /* The two parts of a result. */
 #define VB_NUMBER(result) ((result) % 256u)
 #define VB_LENGTH(result) ((result) / 256u)
@@ -114,7 +117,11 @@ enum vb_number {
     VB_NOT_AWAITED = 43,    /* after an item: neither ACK, NAK, EOT nor 20H to 7EH */
     VB_TIMED_OUT = 44,      /* idle: no byte for three seconds after an item was sent */
     VB_LIST_ENDED = 45,     /* ACK after the last item: the end of the list, no fault */
-    VB_NO_ROOM = 46         /* the item's value does not fit: no value in its range is one */
+    VB_NO_ROOM = 46,        /* the item's value does not fit: no value in its range is one */
+
+    /* A capture: nothing changed in the table, no frame shown. */
+    VB_BAD_CAPTURE = 51,  /* under 6 or over 65,536 bytes, or not well formed */
+    VB_NO_SUCH_FRAME = 52 /* show: the capture has no frame of this number */
 };
 
 /* The items. Entry n - 1 of the table holds item n as a whole number with the point left out: M1
@@ -294,6 +301,31 @@ uint32_t vb_read_text(uint8_t decimals, const uint8_t *chars, uint64_t n, int32_
  * decimals is over 3, and 8 where the value does not fit, both with six zero bytes in place of the
  * text. Bytes behind the six stay. */
 uint32_t vb_write_text(uint8_t decimals, int32_t value, uint8_t *chars, uint64_t n);
+
+/* Plays a capture of RTU frames back: sets the table to what a panel at this address ends with that
+ * begins at the start values and is handed the capture's frames one at a time, the first one first.
+ * docs/CAPTURES.md draws what a capture is.
+ *
+ * table, tn   where the result goes; VB_TABLE_ENTRIES. What it holds before is not looked at, so
+ *             there is no 2
+ * address     of the panel that is played, 1 to 99
+ * capture, cn what was recorded; 6 to VB_CAPTURE_BYTES bytes. It is read only
+ *
+ * Gives 0, or the first of 1, 4 and 51, and then the table stays. With 0 the frames may have given
+ * anything: those that a panel passes over or refuses change nothing here either. Time and stack do
+ * not depend on what the frames hold: the time grows as the capture's length does. */
+uint32_t vb_playback(int32_t *table, uint64_t tn, uint8_t address, const uint8_t *capture,
+                     uint64_t cn);
+
+/* Shows a frame of a capture: where its bytes begin in the capture, from 0, and how many they are.
+ *
+ * frame       its number: 1 is the first that was recorded
+ * place       set to where it begins, or 0
+ * length      set to its number of bytes, 1 to 256, or 0
+ *
+ * Gives 0, or the first of 51 and 52 with place and length 0. */
+uint32_t vb_show(const uint8_t *capture, uint64_t cn, uint32_t frame, uint32_t *place,
+                 uint32_t *length);
 
 #ifdef __cplusplus
 }

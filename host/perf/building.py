@@ -4,7 +4,8 @@ import kit
 from counting import run
 
 SOURCES = kit.ROOT / "host" / "perf"
-LINK = [SOURCES / "link.c", SOURCES / "known.c"]
+SHARED = [SOURCES / "captures.c", SOURCES / "known.c"]
+LINK = [SOURCES / "link.c", *SHARED]
 LIBRARY = kit.ROOT / "target" / "staticlib" / "libpanel.a"
 REFERENCE = kit.TARGET / "libreference.rlib"
 
@@ -23,7 +24,7 @@ def library():
 
 def stack():
     """The program that tells what stack the library takes."""
-    return linked("stack", SOURCES / "stack.c", SOURCES / "known.c")
+    return linked("stack", SOURCES / "stack.c", *SHARED)
 
 
 def reference():

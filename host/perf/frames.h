@@ -14,8 +14,8 @@ struct request {
     uint8_t bytes[LONG];
 };
 
-/* The last two have a wrong CRC: what the longer one takes more than the shorter one is the CRC of
- * 248 bytes. */
+/* The damaged ones have a wrong CRC: what the longer one takes more than the shorter one is the CRC
+ * of 248 bytes. The one of one byte is for captures, of which it makes the most frames. */
 static struct request requests[] = {
     {"read", SHORT, {ADDRESS, 0x03, 0x00, 0x00, 0x00, 0x13, 0x04, 0x07}},  /* all 19 registers */
     {"write", SHORT, {ADDRESS, 0x06, 0x00, 0x10, 0xFF, 0x6A, 0x49, 0xD0}}, /* PB to -1.50 */
@@ -25,6 +25,7 @@ static struct request requests[] = {
     {"loopback", SHORT, {ADDRESS, 0x08, 0x00, 0x00, 0x1F, 0x34, 0xE9, 0xEC}}, /* 004's example */
     {"damaged-short", SHORT, {ADDRESS}},
     {"damaged-long", LONG, {ADDRESS}},
+    {"one-byte", 1, {ADDRESS}},
 };
 
 enum { REQUESTS = sizeof requests / sizeof requests[0] };

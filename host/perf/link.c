@@ -1,8 +1,11 @@
 /* Makes the calls of one case through the C functions of the link, for their instructions to be
- * counted: link CASE. Whatever has these functions can be linked to it.
+ * counted: link CASE, and behind it the capture for the case playback or show. Whatever has these
+ * functions can be linked to it.
  *
  * It prints where the counted functions stand, for each call that gave something the number and the
- * reply, and how many bytes it handed over. */
+ * reply, the table or the place and length, and how many bytes it handed over, or frames of a
+ * capture. */
+#include "captures.h"
 #include "frames.h"
 #include "vennebruis.h"
 
@@ -16,7 +19,22 @@ void ten_rounds_twice(void);
 static int32_t table[VB_TABLE_ENTRIES];
 static uint8_t link_state[VB_STATE_BYTES];
 static uint8_t reply[VB_REPLY_BYTES];
+static struct capture capture;
 static unsigned handed_over;
+
+/* Captures that hold one of the requests again and again: the most frames that there is room for,
+ * half as many, and the most writes. */
+static const struct repeated {
+    const char *name;
+    const char *request;
+    size_t frames;
+} captures[] = {
+    {"full", "one-byte", 21843},
+    {"half", "one-byte", 10921},
+    {"writes", "write", 6553},
+};
+
+enum { CAPTURES = sizeof captures / sizeof captures[0] };
 
 static void show(uint32_t result) {
     if (result == 0)
@@ -68,23 +86,63 @@ static void select_items(void) {
     }
 }
 
+static const struct request *request_of(const char *name) {
+    for (size_t i = 0; i < REQUESTS; i++)
+        if (strcmp(name, requests[i].name) == 0)
+            return &requests[i];
+    return NULL;
+}
+
+static void repeat(const struct request *request, size_t frames) {
+    for (size_t i = 0; i < frames; i++)
+        capture_add(&capture, request->bytes, request->n);
+}
+
+static void record(const char *name) {
+    for (size_t i = 0; i < CAPTURES; i++)
+        if (strcmp(name, captures[i].name) == 0)
+            repeat(request_of(captures[i].request), captures[i].frames);
+    capture_end(&capture);
+}
+
+static void playback(void) {
+    uint32_t number = vb_playback(table, VB_TABLE_ENTRIES, ADDRESS, capture.bytes, capture.n);
+    printf("gave %u:", (unsigned)number);
+    for (size_t i = 0; i < VB_TABLE_ENTRIES; i++)
+        printf(" %d", (int)table[i]);
+    printf("\n");
+}
+
+static void show_first(void) {
+    uint32_t place, length;
+    uint32_t number = vb_show(capture.bytes, capture.n, 1, &place, &length);
+    printf("gave %u: %u %u\n", (unsigned)number, (unsigned)place, (unsigned)length);
+}
+
 int main(int argc, char **argv) {
     const char *name = argc > 1 ? argv[1] : "";
     printf("at vb_rtu %lx\nat vb_byte %lx\nat ten_rounds_twice %lx\n", (unsigned long)vb_rtu,
            (unsigned long)vb_byte, (unsigned long)ten_rounds_twice);
+    printf("at vb_playback %lx\nat vb_show %lx\n", (unsigned long)vb_playback,
+           (unsigned long)vb_show);
     vb_start_table(table, VB_TABLE_ENTRIES);
     vb_start_link(link_state, sizeof link_state);
     vb_put(table, VB_TABLE_ENTRIES, VB_M1, 1234);
+    record(argc > 2 ? argv[2] : "");
 
+    const struct request *request = request_of(name);
+    if (request != NULL)
+        rtu(request);
     if (strcmp(name, "known") == 0)
         ten_rounds_twice();
     if (strcmp(name, "poll") == 0)
         poll();
     if (strcmp(name, "select") == 0)
         select_items();
-    for (size_t i = 0; i < REQUESTS; i++)
-        if (strcmp(name, requests[i].name) == 0)
-            rtu(&requests[i]);
-    printf("bytes %u\n", handed_over);
+    if (strcmp(name, "playback") == 0)
+        playback();
+    if (strcmp(name, "show") == 0)
+        show_first();
+    printf("bytes %u\nframes %u\n", handed_over, (unsigned)capture.frames);
     return 0;
 }

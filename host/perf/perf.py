@@ -31,10 +31,18 @@ ROWS = {
     "poll": "RKC: all items polled, per byte",
     "select": "RKC: all settings written, per byte",
     "session": "RKC: one after the other, per byte",
+    "full": "playback of 21,843 frames of one byte",
+    "half": "playback of 10,921 frames of one byte",
+    "writes": "playback of 6,553 writes (06H), per write",
+    "show": "show of the first of 21,843 frames",
     "code": "code, bytes",
     "constants": "constants, bytes",
     "stack": "stack of the deepest call, bytes",
 }
+
+# What playback takes more of, at most, where the capture has twice as many frames. A walk through
+# the capture for each frame would take four times as much.
+MOST_GROWTH = 2.5
 
 # The requests that libmodbus knows, too.
 SHARED = ["read", "write", "write-three"]
@@ -45,9 +53,9 @@ def replies(printed):
     return re.findall(r"^gave (.*)$", printed, re.MULTILINE)
 
 
-def handed_over(printed):
-    """The number of bytes that the calls were handed."""
-    return int(re.search(r"^bytes (\d+)$", printed, re.MULTILINE)[1])
+def handed_over(printed, what="bytes"):
+    """The number of bytes that the calls were handed, or of frames in a capture."""
+    return int(re.search(rf"^{what} (\d+)$", printed, re.MULTILINE)[1])
 
 
 def modbus(program, functions, cases):
@@ -76,15 +84,32 @@ def rkc(program):
     return figures, gave
 
 
+def captures(program):
+    """The instructions of a capture played back and of a frame shown, and what came back."""
+    figures, frames, gave = {}, {}, {}
+    for case in ("full", "half", "writes"):
+        figures[case], printed = count([*program, "playback", case], ["vb_playback"])
+        frames[case] = handed_over(printed, "frames")
+        gave[case] = replies(printed)
+    figures["writes"] /= frames["writes"]
+    figures["show"], printed = count([*program, "show", "full"], ["vb_show"])
+    gave["show"] = replies(printed)
+    if not all(given[0].startswith("0:") for given in gave.values()):
+        raise SystemExit(f"perf: a capture is refused: {gave}")
+    return figures, gave
+
+
 def link(program, file):
     """All figures of an implementation with the C functions of the link."""
     figures, gave = modbus(program, ["vb_rtu"], [*SHARED, "loopback"])
-    more, gave_more = rkc(program)
-    return figures | more | sizes.both(file), gave | gave_more
+    for part in (rkc, captures):
+        more, gave_more = part(program)
+        figures, gave = figures | more, gave | gave_more
+    return figures | sizes.both(file), gave
 
 
 def libmodbus(program):
-    """Those of libmodbus, which knows neither the loopback nor the RKC line."""
+    """Those of libmodbus, which knows neither the loopback, the RKC line nor captures."""
     figures, gave = modbus(program, ["libmodbus_check", "modbus_reply"], SHARED)
     return figures | sizes.both(kit.libmodbus()), gave
 
@@ -124,6 +149,10 @@ def main():
     reply = sizes.function(kit.libmodbus(), "modbus_reply")
     print(f"\nOf libmodbus's code, which is all of it, modbus_reply alone has {reply} bytes.")
     print(f"Stack by function: {', '.join(f'{name} {n}' for name, n in stack.items())}.")
+    growth = library["full"] / library["half"]
+    print(f"Playback of twice as many frames takes {growth:.2f} times the instructions.")
+    if growth > MOST_GROWTH:
+        raise SystemExit(f"perf: that is more than {MOST_GROWTH} times")
 
 
 main()

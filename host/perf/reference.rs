@@ -61,3 +61,30 @@ pub unsafe extern "C" fn vb_rtu(
     let reply = from_raw_parts_mut(reply, reply_length);
     reference::rtu(table, reply, address, from_raw_parts(frame, frame_length))
 }
+
+/// # Safety
+/// Each array has the length behind it, and none overlaps another.
+#[no_mangle]
+pub unsafe extern "C" fn vb_playback(
+    table: *mut i32,
+    table_length: usize,
+    address: u8,
+    capture: *const u8,
+    capture_length: usize,
+) -> u32 {
+    let table = from_raw_parts_mut(table, table_length);
+    reference::playback(table, address, from_raw_parts(capture, capture_length))
+}
+
+/// # Safety
+/// `capture` has `n` bytes; `place` and `length` are a number each, and none overlaps another.
+#[no_mangle]
+pub unsafe extern "C" fn vb_show(
+    capture: *const u8,
+    n: usize,
+    frame: u32,
+    place: *mut u32,
+    length: *mut u32,
+) -> u32 {
+    reference::show(from_raw_parts(capture, n), frame, &mut *place, &mut *length)
+}

@@ -3,6 +3,7 @@
  *
  * It prints for each function the most that one of the calls below took: arguments that go on the
  * stack, the return address, and all below it, what stands under the stack pointer included. */
+#include "captures.h"
 #include "frames.h"
 #include "vennebruis.h"
 
@@ -50,7 +51,20 @@ struct measured {
     size_t most;
 };
 
-enum name { KNOWN, START_TABLE, START_LINK, BYTE, IDLE, RTU, PUT, READ_TEXT, WRITE_TEXT, NAMES };
+enum name {
+    KNOWN,
+    START_TABLE,
+    START_LINK,
+    BYTE,
+    IDLE,
+    RTU,
+    PUT,
+    READ_TEXT,
+    WRITE_TEXT,
+    PLAYBACK,
+    SHOW,
+    NAMES
+};
 
 static struct measured measured[NAMES] = {
     [KNOWN] = {"eighty_bytes", eighty_bytes, 0, 0},
@@ -62,11 +76,14 @@ static struct measured measured[NAMES] = {
     [PUT] = {"vb_put", (void (*)(void))vb_put, 4, 0},
     [READ_TEXT] = {"vb_read_text", (void (*)(void))vb_read_text, 4, 0},
     [WRITE_TEXT] = {"vb_write_text", (void (*)(void))vb_write_text, 4, 0},
+    [PLAYBACK] = {"vb_playback", (void (*)(void))vb_playback, 5, 0},
+    [SHOW] = {"vb_show", (void (*)(void))vb_show, 5, 0},
 };
 
 static int32_t table[VB_TABLE_ENTRIES];
 static uint8_t link_state[VB_STATE_BYTES];
 static uint8_t reply[VB_REPLY_BYTES];
+static struct capture capture;
 static _Alignas(16) uint8_t stack[STACK];
 
 static uint64_t at(const void *pointer) { return (uint64_t)(uintptr_t)pointer; }
@@ -143,6 +160,26 @@ static void text(void) {
         }
 }
 
+static void playback(uint64_t entries, uint64_t address, uint64_t n) {
+    call(PLAYBACK, (uint64_t[WORDS]){at(table), entries, address, at(capture.bytes), n});
+}
+
+/* A capture of all requests, three times over; what is no capture; and what is not to be played. */
+static void captured(void) {
+    static uint32_t place, length;
+    for (size_t i = 0; i < 3 * REQUESTS; i++)
+        capture_add(&capture, requests[i % REQUESTS].bytes, requests[i % REQUESTS].n);
+    capture_end(&capture);
+    playback(VB_TABLE_ENTRIES, ADDRESS, capture.n);
+    playback(VB_TABLE_ENTRIES, ADDRESS + 1, capture.n);
+    playback(VB_TABLE_ENTRIES, 0, capture.n);
+    playback(VB_TABLE_ENTRIES - 1, ADDRESS, capture.n);
+    playback(VB_TABLE_ENTRIES, ADDRESS, capture.n - 1);
+    for (uint64_t frame = 0; frame <= capture.frames + 1; frame++)
+        for (uint64_t n = capture.n - 1; n <= capture.n; n++)
+            call(SHOW, (uint64_t[WORDS]){at(capture.bytes), n, frame, at(&place), at(&length)});
+}
+
 int main(void) {
     call(KNOWN, (uint64_t[WORDS]){0});
     call(START_TABLE, (uint64_t[WORDS]){at(table), VB_TABLE_ENTRIES});
@@ -151,6 +188,7 @@ int main(void) {
     rtu();
     put();
     text();
+    captured();
     for (size_t i = 0; i < NAMES; i++)
         printf("stack %s %u\n", measured[i].name, (unsigned)measured[i].most);
     return 0;

@@ -22,13 +22,16 @@ static const char help[] =
     "  --baud B        the line's speed: 1200 to 115200 (9600)\n"
     "  --silence MS    what ends an RTU frame: 1 to 1000 ms (3.5 characters, and 5 ms at least);\n"
     "                  an adapter that hands bytes over late needs more\n"
+    "  --record FILE   records the RTU frames as a capture for panel-playback, in place of what\n"
+    "                  FILE holds; it ends with a message when 65536 bytes have no more room\n"
     "  --link PATH     a symbolic link to the pseudo-terminal, removed at the end\n"
     "  -v, --verbose   shows each request, its number and the reply on standard error\n"
     "  -h, --help      this text\n"
     "\n"
     "The name of the device or pseudo-terminal is printed when it is ready.\n"
     "It goes on until SIGINT, SIGTERM or SIGHUP comes or the device goes away, with status 0.\n"
-    "Status 1: the line could not be had. Status 2: a bad command line.\n";
+    "Status 1: the line could not be had, or the capture could not be written.\n"
+    "Status 2: a bad command line.\n";
 
 /* Silence that ends an RTU frame: 3.5 characters of 11 bits, as the Modbus standard counts them. */
 enum { SILENCE_HALF_CHARACTERS = 7, CHARACTER_BITS = 11 };
@@ -106,7 +109,7 @@ static enum verdict settle_panel(struct options *options, const struct given *gi
     return VERDICT_START;
 }
 
-/* The line's part: speed, silence and link. */
+/* The line's part: speed, silence, record and link. */
 static enum verdict settle_line(struct options *options, const struct given *given) {
     long baud = given->baud < 0 ? DEFAULT_BAUD : given->baud;
     if (!find_speed(baud, &options->speed)) {
@@ -114,6 +117,9 @@ static enum verdict settle_line(struct options *options, const struct given *giv
     }
     if (given->silence >= 0 && options->speech != SPEECH_RTU) {
         return refuse("--silence belongs to rtu");
+    }
+    if (options->record != NULL && options->speech != SPEECH_RTU) {
+        return refuse("--record belongs to rtu");
     }
     long silence = given->silence < 0 ? silence_of(baud) : given->silence;
     if (silence < 1 || silence > SILENCE_CEILING_MS) {
@@ -146,10 +152,15 @@ static enum verdict read_words(struct options *options, int count, char **words)
 }
 
 static const struct option names[] = {
-    {"address", required_argument, NULL, 'a'}, {"structure", required_argument, NULL, 's'},
-    {"baud", required_argument, NULL, 'b'},    {"silence", required_argument, NULL, 'i'},
-    {"link", required_argument, NULL, 'l'},    {"verbose", no_argument, NULL, 'v'},
-    {"help", no_argument, NULL, 'h'},          {NULL, 0, NULL, 0},
+    {"address", required_argument, NULL, 'a'},
+    {"structure", required_argument, NULL, 's'},
+    {"baud", required_argument, NULL, 'b'},
+    {"silence", required_argument, NULL, 'i'},
+    {"record", required_argument, NULL, 'r'},
+    {"link", required_argument, NULL, 'l'},
+    {"verbose", no_argument, NULL, 'v'},
+    {"help", no_argument, NULL, 'h'},
+    {NULL, 0, NULL, 0},
 };
 
 /* The place of an option that takes a number, or NULL. */
@@ -176,6 +187,9 @@ static enum verdict read_option(struct options *options, struct given *given, in
                                            : refuse("'%s' is not a whole number", optarg);
     }
     switch (letter) {
+    case 'r':
+        options->record = optarg;
+        return VERDICT_START;
     case 'l':
         options->link = optarg;
         return VERDICT_START;

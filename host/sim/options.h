@@ -12,6 +12,7 @@ struct options {
     enum speech speech;
     const char *device; /* NULL: a new pseudo-terminal */
     const char *link;   /* NULL: no link to the pseudo-terminal */
+    const char *record; /* NULL: no capture is recorded */
     uint8_t address;
     uint8_t structure;
     speed_t speed;

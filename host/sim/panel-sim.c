@@ -5,19 +5,36 @@
 #include "line.h"
 #include "options.h"
 #include "panel.h"
+#include "record.h"
 #include "vennebruis.h"
 
-enum { STATUS_DONE = 0, STATUS_NO_LINE = 1, STATUS_BAD_USAGE = 2 };
+enum { STATUS_DONE = 0, STATUS_FAILED = 1, STATUS_BAD_USAGE = 2 };
 
-static void serve(struct line *line, const struct options *options) {
+/* Whether all went well until the line ended. */
+static bool serve(struct line *line, const struct options *options, struct record *record) {
     struct panel panel = {.reply = {0}};
     vb_start_table(panel.table, VB_TABLE_ENTRIES);
     vb_start_link(panel.state, VB_STATE_BYTES);
     if (options->speech == SPEECH_RTU) {
-        serve_rtu(&panel, line, options);
-    } else {
-        serve_rkc(&panel, line, options);
+        return serve_rtu(&panel, line, options, record);
     }
+    serve_rkc(&panel, line, options);
+    return true;
+}
+
+/* On a line that is open. The capture comes after it, so that an older one of the same name is not
+   lost where there is no line. */
+static bool play(struct line *line, const struct options *options) {
+    struct record record;
+    if (!record_start(&record, options->record)) {
+        return false;
+    }
+    /* Whoever started it can go ahead from here. */
+    puts(line->pseudo ? line->name : options->device);
+    fflush(stdout);
+    bool well = serve(line, options, &record);
+    record_close(&record);
+    return well;
 }
 
 int main(int argc, char **argv) {
@@ -33,12 +50,9 @@ int main(int argc, char **argv) {
     }
     ending_prepare();
     if (!line_open(&line, &options)) {
-        return STATUS_NO_LINE;
+        return STATUS_FAILED;
     }
-    /* Whoever started it can go ahead from here. */
-    puts(line.pseudo ? line.name : options.device);
-    fflush(stdout);
-    serve(&line, &options);
+    bool well = play(&line, &options);
     line_close(&line);
-    return STATUS_DONE;
+    return well ? STATUS_DONE : STATUS_FAILED;
 }

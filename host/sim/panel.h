@@ -2,11 +2,13 @@
 #ifndef PANEL_H
 #define PANEL_H
 
+#include <stdbool.h>
 #include <stddef.h>
 #include <stdint.h>
 
 #include "line.h"
 #include "options.h"
+#include "record.h"
 #include "vennebruis.h"
 
 struct panel {
@@ -15,8 +17,12 @@ struct panel {
     uint8_t reply[VB_REPLY_BYTES];
 };
 
-/* Answer until the line ends. */
-void serve_rtu(struct panel *panel, struct line *line, const struct options *options);
+/* Answers until the line ends. False where a frame could not be recorded: it is not answered, nor
+   is any after it. */
+bool serve_rtu(struct panel *panel, struct line *line, const struct options *options,
+               struct record *record);
+
+/* Answers until the line ends. */
 void serve_rkc(struct panel *panel, struct line *line, const struct options *options);
 
 #endif

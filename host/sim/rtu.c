@@ -1,6 +1,7 @@
 /* The Modbus RTU line: a frame is what stands between two silences. */
 #include "panel.h"
 
+#include <stdio.h>
 #include <string.h>
 
 #include "show.h"
@@ -31,13 +32,14 @@ static void answer(struct panel *panel, const struct line *line, const struct op
     size_t length = VB_LENGTH(result);
     line_send(line, panel->reply, length);
     if (options->show) {
-        show_frame("request", (struct bytes){frame->bytes, frame->length});
+        show_frame(stderr, "request", (struct bytes){frame->bytes, frame->length});
         show_number(VB_NUMBER(result));
-        show_frame("reply", (struct bytes){panel->reply, length});
+        show_frame(stderr, "reply", (struct bytes){panel->reply, length});
     }
 }
 
-void serve_rtu(struct panel *panel, struct line *line, const struct options *options) {
+bool serve_rtu(struct panel *panel, struct line *line, const struct options *options,
+               struct record *record) {
     struct frame frame = {.length = 0};
     for (;;) {
         uint8_t bytes[FRAME_ROOM];
@@ -49,12 +51,16 @@ void serve_rtu(struct panel *panel, struct line *line, const struct options *opt
             break;
         case HEARD_SILENCE:
             if (frame.length > 0) {
+                /* Before the answer: what a host was told is then in the capture. */
+                if (!record_frame(record, frame.bytes, frame.length)) {
+                    return false;
+                }
                 answer(panel, line, options, &frame);
                 frame.length = 0;
             }
             break;
         case HEARD_END:
-            return;
+            return true;
         }
     }
 }

@@ -1,7 +1,6 @@
 #include "show.h"
 
 #include <ctype.h>
-#include <stdio.h>
 
 struct row {
     unsigned number;
@@ -35,6 +34,8 @@ static const struct row meanings[] = {
     {44, "host silent for three seconds"},
     {45, "end of the item list"},
     {46, "value does not fit six characters"},
+    {51, "capture too short, too long or not well formed"},
+    {52, "no frame of this number in the capture"},
 };
 
 static const struct row controls[] = {
@@ -50,19 +51,19 @@ static const char *find(const struct row *rows, size_t count, unsigned number) {
     return NULL;
 }
 
-static void show_hex(const char *title, struct bytes bytes) {
-    fprintf(stderr, "%-7s", title);
+static void show_hex(FILE *to, const char *title, struct bytes bytes) {
+    fprintf(to, "%-7s", title);
     if (bytes.length == 0) {
-        fputs(" none", stderr);
+        fputs(" none", to);
     }
     for (size_t i = 0; i < bytes.length; i++) {
-        fprintf(stderr, " %02X", bytes.first[i]);
+        fprintf(to, " %02X", bytes.first[i]);
     }
 }
 
-void show_frame(const char *title, struct bytes bytes) {
-    show_hex(title, bytes);
-    fputs("\n", stderr);
+void show_frame(FILE *to, const char *title, struct bytes bytes) {
+    show_hex(to, title, bytes);
+    fputs("\n", to);
 }
 
 static void show_character(unsigned character) {
@@ -75,7 +76,7 @@ static void show_character(unsigned character) {
 }
 
 void show_characters(const char *title, struct bytes bytes) {
-    show_hex(title, bytes);
+    show_hex(stderr, title, bytes);
     fputs(bytes.length == 0 ? "" : "  ", stderr);
     for (size_t i = 0; i < bytes.length; i++) {
         show_character(bytes.first[i] & 0x7Fu);

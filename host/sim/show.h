@@ -1,9 +1,10 @@
-/* Traffic on standard error, for someone who looks on. */
+/* Traffic, for someone who looks on. Where no file is named, it goes to standard error. */
 #ifndef SHOW_H
 #define SHOW_H
 
 #include <stddef.h>
 #include <stdint.h>
+#include <stdio.h>
 
 /* Bytes of one direction. */
 struct bytes {
@@ -12,7 +13,7 @@ struct bytes {
 };
 
 /* Bytes in hex. */
-void show_frame(const char *title, struct bytes bytes);
+void show_frame(FILE *to, const char *title, struct bytes bytes);
 
 /* Bytes in hex and as characters without their top bit, control characters by name. */
 void show_characters(const char *title, struct bytes bytes);

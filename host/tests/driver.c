@@ -15,18 +15,30 @@ long write(int file, const void *from, size_t n);
 void *memcpy(void *to, const void *from, size_t n);
 void *memset(void *to, int byte, size_t n);
 
-enum { GUARD = 8, GUARD_BYTE = 0xC3, ARRAY_MOST = 512, BATCH_MOST = 1 << 20 };
+/* The longest array is a capture that is too long. */
+enum { GUARD = 8, GUARD_BYTE = 0xC3, ARRAY_MOST = VB_CAPTURE_BYTES + 512, BATCH_MOST = 1 << 20 };
 
-enum function { START_TABLE, START_LINK, BYTE, IDLE, RTU, PUT, READ_TEXT, WRITE_TEXT };
+enum function {
+    START_TABLE,
+    START_LINK,
+    BYTE,
+    IDLE,
+    RTU,
+    PUT,
+    READ_TEXT,
+    WRITE_TEXT,
+    PLAYBACK,
+    SHOW
+};
 
-/* The lent arrays. The table's place also holds the value that a reading of text sets; the input
- * is a frame or number text. */
+/* The lent arrays. The table's place also holds the value that a reading of text sets, or the place
+ * and the length that a showing sets; the input is a frame, number text or a capture. */
 enum array { STATE, TABLE, REPLY, INPUT, ARRAYS };
 
 /* What a function does not take means nothing. */
 struct request {
     uint8_t function, address, structure, byte, decimals, unused[3];
-    uint32_t now, item;
+    uint32_t now, item, frame;
     int32_t value;
     uint32_t length[ARRAYS]; /* in bytes */
 };
@@ -58,8 +70,12 @@ static uint32_t call(const struct request *r) {
         return vb_put(table, tn, r->item, r->value);
     case READ_TEXT:
         return vb_read_text(r->decimals, input, in, table);
-    default:
+    case WRITE_TEXT:
         return vb_write_text(r->decimals, r->value, input, in);
+    case PLAYBACK:
+        return vb_playback(table, tn, r->address, input, in);
+    default:
+        return vb_show(input, in, r->frame, (uint32_t *)table, (uint32_t *)table + 1);
     }
 }
 

@@ -15,6 +15,9 @@ pub answer-single : {number : ℕ} {reply : List ℕ} {r s : Answered} {before a
 answer-single p q =
     ap₂ (λ (n l : ℕ). record { number = n; len = l }) (single (p .given) (q .given)) (single (p .len) (q .len))
 
+pub ours : OneOutcome modbus.ours.ended modbus.ours.Reads.Asked modbus.ours.Reads.Post
+ours = record { asksNothing = λ κs a. tt; single = λ κs a o u p q. single p q & refl }
+
 pub respond : OneOutcome modbus.respond.ended modbus.respond.Reads.Asked modbus.respond.Reads.Post
 respond =
     record {

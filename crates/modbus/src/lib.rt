@@ -33,11 +33,11 @@ const HEAD_LENGTH: usize = 2;
 // Functions.
 const READ_REGISTERS: u8 = 0x03;
 
-const WRITE_REGISTER: u8 = 0x06;
+pub const WRITE_REGISTER: u8 = 0x06;
 
 const LOOPBACK: u8 = 0x08;
 
-const WRITE_SEVERAL: u8 = 0x10;
+pub const WRITE_SEVERAL: u8 = 0x10;
 
 // ---- replies
 
@@ -198,7 +198,7 @@ fn silent(number: u8) -> Answered
 }
 
 // Whether a message has an address and a function, and the address is ours.
-fn ours(address: u8, body: &[u8]) -> bool
+pub fn ours(address: u8, body: &[u8]) -> bool
     ensures { λ r. ⌜ r ≡ ours address (now (body .entry)) ⌝ }
 {
     HEAD_LENGTH <= body.len() && body[0] == address

@@ -58,3 +58,19 @@ rtu =
           & single (x .sends .sent) (y .sends .sent)
           & refl;
     }
+
+pub playback : OneOutcome panel.vb_playback.ended panel.vb_playback.Reads.Asked panel.vb_playback.Reads.Post
+playback = record { asksNothing = λ κs a. tt; single = λ κs a o u p q. lent-single p q .0 & lent-single p q .1 & refl }
+
+pub show : OneOutcome panel.vb_show.ended panel.vb_show.Reads.Asked panel.vb_show.Reads.Post
+show =
+    record {
+      asksNothing = λ κs a. tt;
+      single = λ κs a o u p q.
+          single {A = ℕ} (p .given) (q .given)
+          & refl
+          & refl
+          & single {A = ℕ} (p .place) (q .place)
+          & single {A = ℕ} (p .len) (q .len)
+          & refl;
+    }

@@ -11,6 +11,8 @@ ghost use Rattle.text.specs.Reading.{readNumber, readValue};
 ghost use Rattle.rkc.specs.Outcome.{received, idled};
 ghost use Rattle.state.specs.State.{unpacked};
 ghost use Rattle.rtu.specs.Promise.{Acts};
+ghost use Rattle.capture.specs.Show.{Shows};
+ghost use Rattle.playback.specs.Playback.{playNumber, played};
 ghost use Rattle.panel.specs.Calls.{result, answerIn, isCallFault, linkStartNumber, linkStart, textNumber, textLeft};
 ghost use Rattle.panel.specs.Promise.{longestReply, Holdable, Held, StepLeft, ByteLeft};
 use rkc::Link;
@@ -172,4 +174,27 @@ pub extern "C" fn vb_write_text(decimals: u8, value: i32, chars: &mut [u8]) -> u
     let six = written.chars;
     put_six(chars, six);
     written.number as u32
+}
+
+// ---- captures
+
+// A capture is played back into the table.
+#[no_mangle]
+pub extern "C" fn vb_playback(table: &mut [i32], address: u8, capture: &[u8]) -> u32
+    ensures { λ r. ⌜ Lent (playNumber (now (table .entry)) address (now (capture .entry)))
+        (played (now (table .entry)) address (now (capture .entry))) r (now (table .exit)) ⌝ }
+{
+    playback::play(table, address, capture) as u32
+}
+
+// A frame of a capture is shown by its place and its length.
+#[no_mangle]
+pub extern "C" fn vb_show(capture: &[u8], frame: u32, place: &mut u32, length: &mut u32) -> u32
+    ensures { λ r. ⌜ Shows (now (capture .entry)) frame
+        (record { number = r; place = now (place .exit); len = now (length .exit) }) ⌝ }
+{
+    let shown = capture::look_up(capture, frame);
+    *place = shown.place as u32;
+    *length = shown.len as u32;
+    shown.number as u32
 }

@@ -5,6 +5,9 @@ use Rattle.numbers.specs.Promise.{OneOutcome}
 use Rattle.numbers.proofs.Single.{single, _&_}
 use Rattle.registers.proofs as registers
 
+pub byte-at : OneOutcome registers.byte_at.ended registers.byte_at.Reads.Asked registers.byte_at.Reads.Post
+byte-at = record { asksNothing = λ κs a. tt; single = λ κs a o u p q. single p q & refl }
+
 pub first-word : OneOutcome registers.first_word.ended registers.first_word.Reads.Asked registers.first_word.Reads.Post
 first-word = record { asksNothing = λ κs a. tt; single = λ κs a o u p q. single p q & refl }
 

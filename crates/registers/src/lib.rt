@@ -20,8 +20,8 @@ const MOST_REGISTERS: u16 = 125;
 
 // ---- words
 
-// A byte of the body, 0 past its end: a body of any length has its words.
-fn byte_at(body: &[u8], i: usize) -> u8
+// A byte of a body, 0 past its end: a body of any length has its words.
+pub fn byte_at(body: &[u8], i: usize) -> u8
     ensures { λ r. ⌜ r ≡ getD (now (body .entry)) i 0 ⌝ }
 {
     if i < body.len() { body[i] } else { 0 }

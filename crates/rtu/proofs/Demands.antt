@@ -71,12 +71,12 @@ module _ (call : Call) (frame : List ℕ) where
       (λ number. inl refl)
       (stays-or-in-range (call .table) (call .address) (bodyOf frame) j)
 
-  frame-read-only : (j : ℕ) → itemAt j .writable ≡ false → entry (actedOn call frame .table) j ≡ entry (call .table) j
+  pub frame-read-only : (j : ℕ) → itemAt j .writable ≡ false → entry (actedOn call frame .table) j ≡ entry (call .table) j
   frame-read-only j h =
       every-frame call frame (λ (o : Outcome). entry (o .table) j ≡ entry (call .table) j) (λ number. refl)
       (read-only-stays (call .table) (call .address) (bodyOf frame) j h)
 
-  frame-good : goodTable (call .table) ≡ true → goodTable (actedOn call frame .table) ≡ true
+  pub frame-good : goodTable (call .table) ≡ true → goodTable (actedOn call frame .table) ≡ true
   frame-good g =
       every-frame call frame (λ (o : Outcome). goodTable (o .table) ≡ true) (λ number. g)
       (good-stays (call .table) (call .address) (bodyOf frame) g)

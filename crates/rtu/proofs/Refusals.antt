@@ -1,19 +1,19 @@
 -- What a call refuses, case by case, and what is known of a call and a frame that are not refused.
 -- Assumes nothing.
 use mathlib.Core.Path.{_≡_, sym, _∙_}
-use mathlib.Core.Bool.{Bool, _&&_}
+use mathlib.Core.Bool.{Bool, true, _&&_}
 use mathlib.Core.List.{List}
 use Prim.Native.Nat.{ℕ, _≤_, _<_}
 use native.Mathlib.Omega.{arith}
 use borrow.Author.Tests.{leb-true, le-leb, lt-leb}
 use lib.Dec.{leb}
 use lib.ListN.{length}
-use Rattle.numbers.specs.Numbers.{none, unless, shortBuffer, leastBuffer, badSetting, lastAddress}
+use Rattle.numbers.specs.Numbers.{none, unless, shortBuffer, leastBuffer, badSetting}
 use Rattle.numbers.proofs.Tests.{both}
 use Rattle.numbers.proofs.Order.{this-first, next-first, neither-first, last-met, passed}
 use Rattle.table.specs.Table.{tableFault}
 use Rattle.crc.specs.Crc.{isRight}
-use Rattle.rtu.specs.Frame.{wrongFrameLength, wrongCrc, firstAddress, shortest, longest}
+use Rattle.rtu.specs.Frame.{wrongFrameLength, wrongCrc, isAddress, shortest, longest}
 use Rattle.rtu.specs.Frame.{Call, callFault, frameFault, refusal}
 
 -- ---- the caller's faults
@@ -29,25 +29,29 @@ module _ (call : Call) where
 
   -- where the table and the buffer are right, the address decides
   module _ (e : tableFault (call .table) ≡ none) (h : leastBuffer ≤ length (call .buffer)) where
-    by-address : callFault call ≡ unless (leb firstAddress (call .address) && leb (call .address) lastAddress) badSetting
+    pub call-address : {b : Bool} → b ≡ isAddress (call .address) → callFault call ≡ unless b badSetting
     unfolding callFault
-    by-address = next-first _ _ e ∙ rw (le-leb leastBuffer (length (call .buffer)) h) (last-met _)
+    call-address a = next-first _ _ e ∙ rw (le-leb leastBuffer (length (call .buffer)) h, ← a) (last-met _)
 
-    pub call-below : call .address < firstAddress → callFault call ≡ badSetting
-    call-below a = by-address ∙ rw (lt-leb firstAddress (call .address) a)
+  -- what a call is whose caller made no fault
+  pub record Fine : Type 0 where
+    pub table : tableFault (call .table) ≡ none
+    pub room : leastBuffer ≤ length (call .buffer)
+    pub address : isAddress (call .address) ≡ true
 
-    pub call-above : lastAddress < call .address → callFault call ≡ badSetting
-    call-above a = by-address ∙ rw (le-leb firstAddress (call .address) (omega arith), lt-leb (call .address) lastAddress a)
-
-    pub call-right : firstAddress ≤ call .address → call .address ≤ lastAddress → callFault call ≡ none
-    call-right a b = by-address ∙ rw (le-leb firstAddress (call .address) a, le-leb (call .address) lastAddress b)
-
-  pub call-has-room : callFault call ≡ none → 256 ≤ length (call .buffer)
+  pub is-fine : callFault call ≡ none → Fine
   unfolding callFault
-  call-has-room e =
-      let others = neither-first (tableFault (call .table)) _ e .1 in
-      let long = passed (leb leastBuffer (length (call .buffer))) shortBuffer _ (omega arith) others .0 in
-      leb-true leastBuffer (length (call .buffer)) long
+  is-fine e =
+      let first = neither-first (tableFault (call .table)) _ e in
+      let second = passed (leb leastBuffer (length (call .buffer))) shortBuffer _ (omega arith) (first .1) in
+      record {
+        table = first .0;
+        room = leb-true leastBuffer (length (call .buffer)) (second .0);
+        address = passed (isAddress (call .address)) badSetting _ (omega arith) (second .1) .0;
+      }
+
+  pub no-fault : Fine → callFault call ≡ none
+  no-fault f = call-address (f .table) (f .room) (sym (f .address))
 
 -- ---- the frame's faults
 

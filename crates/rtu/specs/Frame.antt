@@ -1,6 +1,6 @@
 -- One RTU frame: a message body with its CRC behind it.
 use Prim.Native.Nat.{ℕ}
-use mathlib.Core.Bool.{_&&_}
+use mathlib.Core.Bool.{Bool, _&&_}
 use mathlib.Core.List.{List, [], _∷_}
 use lib.Dec.{leb}
 use lib.IntN.{ℤ}
@@ -18,9 +18,12 @@ wrongFrameLength = 21
 abbrev pub wrongCrc : ℕ
 wrongCrc = 22
 
--- the least address that a device can have
+-- the addresses that a device can have
 abbrev pub firstAddress : ℕ
 firstAddress = 1
+
+abbrev pub isAddress : ℕ → Bool
+isAddress address = leb firstAddress address && leb address lastAddress
 
 -- the lengths that a frame can have
 abbrev pub shortest : ℕ
@@ -41,7 +44,7 @@ callFault call =
     firstMet
     (tableFault (call .table)
     ∷ unless (leb leastBuffer (length (call .buffer))) shortBuffer
-    ∷ unless (leb firstAddress (call .address) && leb (call .address) lastAddress) badSetting
+    ∷ unless (isAddress (call .address)) badSetting
     ∷ [])
 
 -- The frame's fault: its length, then its CRC.

@@ -4,7 +4,7 @@ ghost use Rattle.numbers.specs.Numbers.{none};
 ghost use Rattle.crc.specs.Crc.{bodyOf};
 ghost use Rattle.modbus.specs.Rules.{acted};
 ghost use Rattle.modbus.specs.Promise.{Gives};
-ghost use Rattle.rtu.specs.Frame.{callFault, frameFault, refusal, withCrc};
+ghost use Rattle.rtu.specs.Frame.{isAddress, callFault, frameFault, refusal, withCrc};
 ghost use Rattle.rtu.specs.Promise.{Acts};
 use modbus::Answered;
 use numbers::BAD_SETTING;
@@ -25,6 +25,13 @@ const SHORTEST: usize = 4;
 
 const LONGEST: usize = 256;
 
+// Whether a device can have this address.
+pub fn is_address(address: u8) -> bool
+    ensures { λ r. ⌜ r ≡ isAddress address ⌝ }
+{
+    (FIRST_ADDRESS <= address) & (address <= LAST_ADDRESS)
+}
+
 // The caller's fault, 0 for none.
 fn call_fault(table: &[i32], reply: &[u8], address: u8) -> u8
     ensures { λ r. ⌜ r
@@ -37,7 +44,7 @@ fn call_fault(table: &[i32], reply: &[u8], address: u8) -> u8
     if reply.len() < LEAST_BUFFER {
         return SHORT_BUFFER;
     }
-    if FIRST_ADDRESS <= address && address <= LAST_ADDRESS {
+    if is_address(address) {
         NONE
     } else {
         BAD_SETTING
@@ -45,7 +52,7 @@ fn call_fault(table: &[i32], reply: &[u8], address: u8) -> u8
 }
 
 // The frame's fault, 0 for none.
-fn frame_fault(frame: &[u8]) -> u8
+pub fn frame_fault(frame: &[u8]) -> u8
     ensures { λ r. ⌜ r ≡ frameFault (now (frame .entry)) ⌝ }
 {
     let length = frame.len();

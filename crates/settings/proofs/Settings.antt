@@ -6,7 +6,7 @@ use mathlib.Core.Bool.{Bool, true, false}
 use mathlib.Core.List.{List, [], _∷_, _++_}
 use Prim.Native.Nat.{ℕ, _+_, _*_, _≤_, _<_}
 use native.Mathlib.Omega.{arith}
-use borrow.Author.Tests.{eqb-true, eqb-false, eq-eqb, le-leb}
+use borrow.Author.Tests.{eqb-true, eqb-false, eq-eqb, ne-eqb, le-leb}
 use lib.Dec.{eqb, leb}
 use lib.IntN.{ℤ}
 use lib.ListN.{length, getD, drop, length-drop}
@@ -34,14 +34,14 @@ use Rattle.modbus.proofs.Laws.{every, number-leaves-table}
 
 -- the data of a message, by its function
 module _ (body : List ℕ) where
-  data-one : functionOf body ≡ writeRegister → dataOf body ≡ drop valuePlace body
+  pub data-one : functionOf body ≡ writeRegister → dataOf body ≡ drop valuePlace body
   data-one f = rw f
 
-  data-several : functionOf body ≡ writeSeveral → dataOf body ≡ drop dataPlace body
+  pub data-several : functionOf body ≡ writeSeveral → dataOf body ≡ drop dataPlace body
   data-several f = rw f
 
-  data-none : (functionOf body ≡ readRegisters) ⊎ (functionOf body ≡ loopback) → dataOf body ≡ []
-  data-none = ⊎-elim (λ f. rw f) (λ f. rw f)
+  pub data-none : (functionOf body ≡ writeRegister → ⊥) → (functionOf body ≡ writeSeveral → ⊥) → dataOf body ≡ []
+  data-none w s = rw (ne-eqb (functionOf body) writeRegister w, ne-eqb (functionOf body) writeSeveral s)
 
   -- it is of bytes where the message is
   data-bytes : ToWrite body → ((i : ℕ) → getD body i 0 < 256) → (i : ℕ) → getD (dataOf body) i 0 < 256
@@ -62,14 +62,10 @@ record Written (t left : List ℤ) (body bytes : List ℕ) : Type 0 where
 module _ (t : List ℤ) (address : ℕ) (body : List ℕ) where
   none-written : (functionOf body ≡ readRegisters) ⊎ (functionOf body ≡ loopback) → Written t t body (dataOf body)
   none-written f =
-      subst⁻¹ (Written t t body) (data-none body f)
-      (record {
-        stored = refl;
-        registers = refl;
-        even = refl;
-        few = omega arith;
-        some = λ w. absurd (⊎-elim (λ r. ⊎-elim (λ e. omega arith) (λ e. omega arith) w) (λ l. ⊎-elim (λ e. omega arith) (λ e. omega arith) w) f);
-      })
+      let one : functionOf body ≡ writeRegister → ⊥ = λ e. ⊎-elim (λ r. omega arith) (λ l. omega arith) f in
+      let several : functionOf body ≡ writeSeveral → ⊥ = λ e. ⊎-elim (λ r. omega arith) (λ l. omega arith) f in
+      subst⁻¹ (Written t t body) (data-none body one several)
+      (record { stored = refl; registers = refl; even = refl; few = omega arith; some = λ w. absurd (⊎-elim one several w) })
 
   -- the registers that a right request has data for
   some-written : (place quantity : ℕ) → dataOf body ≡ drop place body → length body ≡ place + 2 * quantity → 1 ≤ quantity

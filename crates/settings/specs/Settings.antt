@@ -3,7 +3,7 @@
 use Prim.Native.Nat.{ℕ, _<_}
 use mathlib.Core.Path.{_≡_}
 use mathlib.Core.Logic.{_≢_, _⊎_}
-use mathlib.Core.Bool.{cond}
+use mathlib.Core.Bool.{Bool, false, cond, _&&_}
 use mathlib.Core.List.{List, [], _∷_, _++_}
 use lib.Dec.{eqb}
 use lib.IntN.{ℤ}
@@ -12,11 +12,11 @@ use Rattle.numbers.specs.Numbers.{none}
 use Rattle.items.specs.ItemList.{items, itemAt}
 use Rattle.table.specs.Table.{entry}
 use Rattle.registers.specs.Register.{highFirst}
-use Rattle.registers.specs.Faults.{firstWord, dataPlace}
-use Rattle.writes.specs.Writes.{Write, writes, Outside, storedAll, given, over}
+use Rattle.registers.specs.Faults.{rightLength, firstWord, dataPlace, rightCounts}
+use Rattle.writes.specs.Writes.{Write, writes, Outside, allowed, each, storedAll, given, over}
 use Rattle.writes.specs.Requests.{valuePlace}
 use Rattle.modbus.specs.Outcome.{done, addressOf, functionOf}
-use Rattle.modbus.specs.Rules.{readRegisters, writeRegister, writeSeveral, acted}
+use Rattle.modbus.specs.Rules.{readRegisters, writeRegister, writeSeveral, ours, acted}
 
 -- the bytes of data that a message brings to be written: the value of 06H, the data of 10H, none by any other function
 abbrev pub dataOf : List ℕ → List ℕ
@@ -27,6 +27,17 @@ dataOf body =
 -- what a message asks to write; `given (writesOf body) i` is what it gives the item at place i
 abbrev pub writesOf : List ℕ → List Write
 writesOf body = writes (firstWord body) (dataOf body)
+
+-- it has the form of a request to write, that of 06H or of 10H
+abbrev pub rightForm : List ℕ → Bool
+rightForm body =
+    cond (eqb (functionOf body) writeRegister) (rightLength body)
+    (cond (eqb (functionOf body) writeSeveral) (rightCounts body) false)
+
+-- a message is a write that the rules accept, for a device with this address: it is ours, its form is right, and each write of it is
+-- allowed. The table makes no difference to that.
+unfoldable pub acceptsWrite : ℕ → List ℕ → Bool
+acceptsWrite address body = ours address body && rightForm body && each allowed (writesOf body)
 
 -- it asks to write where its function is one of the two
 abbrev pub ToWrite : List ℕ → Type 0

@@ -45,6 +45,9 @@ all-at (x ∷ xs) (v ∷ t) zero a h k = both (fromLowToHigh x v) (allInRange xs
 all-at (x ∷ xs) (v ∷ t) (suc i) a h k =
     all-at xs t i (both (fromLowToHigh x v) (allInRange xs t) a .1) (le-of-suc-le-suc h) (le-of-suc-le-suc k)
 
+pub good-length : (t : List ℤ) → goodTable t ≡ true → length t ≡ items
+good-length t g = good-parts t g .0
+
 -- each entry of a good table is in its range
 pub good-entry : (t : List ℤ) (i : ℕ) → goodTable t ≡ true → i < items → inRange i (entry t i) ≡ true
 unfolding inRange

@@ -1,11 +1,14 @@
 -- The writes that bytes of data ask for, by those that are left: one for each two bytes.
 -- Assumes nothing.
 use mathlib.Core.Path.{_≡_, refl, sym, ap, _∙_}
-use mathlib.Core.Bool.{Bool, true, false}
+use mathlib.Core.Bool.{Bool, true, false, cond}
 use mathlib.Core.List.{List, [], _∷_, map}
-use Prim.Native.Nat.{ℕ, suc, _+_, _-_, _*_, _/_, _≤_, _<_}
+use Prim.Native.Nat.{ℕ, zero, suc, _+_, _-_, _*_, _/_, _≤_, _<_}
 use native.Mathlib.Nat.{add-zero}
+use native.Mathlib.Numerals.{add-one}
 use native.Mathlib.Omega.{arith}
+use borrow.Author.Tests.{eq-eqb, ne-eqb}
+use lib.Dec.{eqb}
 use lib.IntN.{ℤ}
 use lib.ListN.{length, getD, take, drop, length-drop}
 use lib.Seq.{drop-cons, take-all}
@@ -14,7 +17,9 @@ use Rattle.items.proofs.Lists.{values, column-at}
 use Rattle.items.proofs.Lookup.{place-small, held-inside}
 use Rattle.table.specs.Table.{stored}
 use Rattle.registers.specs.Register.{ofRegister, word}
-use Rattle.writes.specs.Writes.{Write, writes, each, storedAll}
+use Rattle.writes.specs.Writes.{Write, writes, each, storedAll, later, given}
+use Rattle.writes.specs.declared.Given.{Given}
+use Rattle.writes.specs.declared.Given.the-variants.{Value, Nothing}
 
 -- what is left of a body from a place on is the part that ends where the body ends
 pub to-the-end : (place : ℕ) (body : List ℕ) → take (length body - place) (drop place body) ≡ drop place body
@@ -88,3 +93,36 @@ module _ (start : ℕ) (bytes : List ℕ) where
 
     pub stored-to-end : (s : List ℤ) (i : ℕ) → StoredTo s i → length bytes / 2 ≤ i → s ≡ storedAll t (writes start bytes)
     stored-to-end s i so h = sym (ap (storedAll s) (none-left i h)) ∙ so
+
+  -- what is given by the writes that are left: the last that is the item's counts, so what they give is given by all
+  module _ (item : ℕ) where
+    abbrev pub GivenFrom : ℕ → Given → Type 0
+    GivenFrom i g = given (left i) item ≡ g
+
+    pub gives-none : (i : ℕ) → length bytes / 2 ≤ i → GivenFrom i Nothing
+    gives-none i h = ap (λ (ws : List Write). given ws item) (none-left i h)
+
+    -- where those behind it give nothing, this one decides
+    gives-here : (i : ℕ) → GivenFrom (i + 1) Nothing → i < length bytes / 2
+        → GivenFrom i (cond (eqb (at i .place) item) (Value (at i .value)) Nothing)
+    gives-here i so h =
+        ap (λ (ws : List Write). given ws item) (one-left i h)
+        ∙ ap (λ (g : Given). later g (cond (eqb (at i .place) item) (Value (at i .value)) Nothing)) so
+
+    pub gives-this : (i : ℕ) → GivenFrom (i + 1) Nothing → i < length bytes / 2 → at i .place ≡ item → GivenFrom i (Value (at i .value))
+    gives-this i so h e = gives-here i so h ∙ rw (eq-eqb (at i .place) item e)
+
+    pub gives-on : (i : ℕ) → GivenFrom (i + 1) Nothing → i < length bytes / 2 → (at i .place ≡ item → ⊥) → GivenFrom i Nothing
+    gives-on i so h e = gives-here i so h ∙ rw (ne-eqb (at i .place) item e)
+
+    -- a value that is given stays given by more of the writes
+    pub value-stays : (i : ℕ) {v : ℤ} → i ≤ length bytes / 2 → GivenFrom i (Value v) → given (writes start bytes) item ≡ Value v
+    value-stays zero h g = ap (λ (ws : List Write). given ws item) (sym all-left) ∙ g
+    value-stays (suc i) {v} h g =
+        let next : GivenFrom (i + 1) (Value v) = rw (add-one i) g in
+        value-stays i (omega arith)
+        (ap (λ (ws : List Write). given ws item) (one-left i (omega arith))
+        ∙ ap (λ (x : Given). later x (cond (eqb (at i .place) item) (Value (at i .value)) Nothing)) next)
+
+    pub none-given : GivenFrom 0 Nothing → given (writes start bytes) item ≡ Nothing
+    none-given g = ap (λ (ws : List Write). given ws item) (sym all-left) ∙ g

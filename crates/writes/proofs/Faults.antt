@@ -1,11 +1,12 @@
 -- The rules of a request to write one by one, and what is known of one that meets no fault.
 -- Assumes nothing.
-use mathlib.Core.Path.{_≡_, sym, ap, _∙_}
-use mathlib.Core.Bool.{Bool, true, false, and-true}
+use mathlib.Core.Path.{_≡_, refl, sym, ap, _∙_}
+use mathlib.Core.Bool.{Bool, true, false, cond, _&&_, and-true}
 use mathlib.Core.List.{List, [], _∷_}
 use Prim.Native.Nat.{ℕ}
 use native.Mathlib.Omega.{arith}
 use borrow.Author.Tests.{eqb-true}
+use lib.Dec.{eqb}
 use lib.IntN.{ℤ}
 use lib.ListN.{length, drop, length-drop, drop-of-length-le}
 use lib.Seq.{drop-cons}
@@ -16,7 +17,7 @@ use Rattle.items.specs.ItemList.{placeOf}
 use Rattle.registers.specs.Register.{ofRegister}
 use Rattle.registers.specs.Faults.{wrongRegister, wrongData, bodyLength, rightLength, firstWord, secondWord, dataPlace, rightCounts}
 use Rattle.registers.proofs.Faults.{Numbered, none-numbered, register-numbered, data-numbered, Counted}
-use Rattle.writes.specs.Writes.{Write, writable, inside, each, requestFault, storedAll, storedUnless}
+use Rattle.writes.specs.Writes.{Write, writable, inside, allowed, each, requestFault, storedAll, storedUnless}
 use Rattle.writes.specs.Requests.{writesFrom, valuePlace, writeFault, severalFault}
 use Rattle.writes.proofs.ReadBack.{length-writes}
 
@@ -53,6 +54,28 @@ module _ (right : Bool) (ws : List Write) where
       let f = passed right wrongData _ (omega arith) e in
       let w = passed (each writable ws) wrongRegister _ (omega arith) (f .1) in
       record { form = f .0; registers = w .0; values = passed (each inside ws) wrongData _ (omega arith) (w .1) .0 }
+
+-- a request meets no fault exactly when its form is right and each of its writes allowed
+pub none-where-allowed : (right : Bool) (ws : List Write) → eqb (requestFault right ws) none ≡ right && each allowed ws
+unfolding requestFault
+none-where-allowed right ws = by right (each writable ws) (each inside ws) ∙ ap (λ (b : Bool). right && b) (sym (each-allowed ws))
+  where
+    by : (r w i : Bool) → eqb (cond (eqb (unless r wrongData) none) (cond (eqb (unless w wrongRegister) none) (cond (eqb (unless i wrongData) none) none (unless i wrongData)) (unless w wrongRegister)) (unless r wrongData)) none
+        ≡ r && (w && i)
+    by true true true = refl
+    by true true false = refl
+    by true false i = refl
+    by false w i = refl
+
+    each-allowed : (ws : List Write) → each allowed ws ≡ each writable ws && each inside ws
+    each-allowed [] = refl
+    each-allowed (w ∷ ws) = ap (λ (b : Bool). allowed w && b) (each-allowed ws) ∙ swap (writable w) (inside w) (each writable ws) (each inside ws)
+      where
+        swap : (a b c d : Bool) → (a && b) && (c && d) ≡ (a && c) && (b && d)
+        swap true true c d = refl
+        swap true false true d = refl
+        swap true false false d = refl
+        swap false b c d = refl
 
 -- ---- all or none
 

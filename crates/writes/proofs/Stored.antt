@@ -14,7 +14,24 @@ use Rattle.numbers.proofs.Tests.{both}
 use Rattle.items.specs.ItemList.{itemAt, inRange}
 use Rattle.table.specs.Table.{goodTable, entry, stored}
 use Rattle.table.proofs.Laws.{good-stored, stored-length, stored-same, stored-other, stored-read-only, stored-in-range}
-use Rattle.writes.specs.Writes.{Write, writable, inside, each, storedAll, Given, Value, Nothing, later, given, over}
+use Rattle.writes.specs.Writes.{Write, writable, inside, each, storedAll, later, given, over}
+use Rattle.writes.specs.declared.Given.{Given}
+use Rattle.writes.specs.declared.Given.the-variants.{Value, Nothing}
+
+-- ---- what an item is given, one thing after the other
+
+pub later-none : (g : Given) → later g Nothing ≡ g
+later-none (Value v) = refl
+later-none Nothing = refl
+
+pub later-assoc : (g h k : Given) → later (later g h) k ≡ later g (later h k)
+later-assoc (Value v) h k = refl
+later-assoc Nothing h k = refl
+
+-- an entry becomes what it is given first, and over that what it is given later
+pub over-later : (v : ℤ) (g h : Given) → over (over v h) g ≡ over v (later g h)
+over-later v (Value w) h = refl
+over-later v Nothing h = refl
 
 -- ---- each entry
 
@@ -36,12 +53,7 @@ all-given t [] i h = refl
 all-given t (w ∷ ws) i h =
     all-given (stored t (w .place) (w .value)) ws i (rw (stored-length t (w .place) (w .value)) h)
     ∙ ap (λ (v : ℤ). over v (given ws i)) (one-given t w i h)
-    ∙ by (given ws i)
-  where
-    by : (g : Given) → over (over (entry t i) (cond (eqb (w .place) i) (Value (w .value)) Nothing)) g
-        ≡ over (entry t i) (later g (cond (eqb (w .place) i) (Value (w .value)) Nothing))
-    by (Value v) = refl
-    by Nothing = refl
+    ∙ over-later (entry t i) (given ws i) (cond (eqb (w .place) i) (Value (w .value)) Nothing)
 
 -- ---- writes that are allowed
 

@@ -10,6 +10,8 @@ use Rattle.items.specs.ItemList.{itemAt, inRange, placeOf}
 use Rattle.table.specs.Table.{stored}
 use Rattle.registers.specs.Register.{ofRegister, word}
 use Rattle.registers.specs.Faults.{wrongRegister, wrongData}
+use Rattle.writes.specs.declared.Given.{Given}
+use Rattle.writes.specs.declared.Given.the-variants.{Value, Nothing}
 
 -- a write: the place of an item, past the list where a register is no item's, and the value that it takes
 pub record Write : Type 0 where
@@ -37,6 +39,9 @@ writable w = itemAt (w .place) .writable
 abbrev pub inside : Write → Bool
 inside w = inRange (w .place) (w .value)
 
+abbrev pub allowed : Write → Bool
+allowed w = writable w && inside w
+
 -- a test holds of each write
 abbrev pub each : (Write → Bool) → List Write → Bool
 each test [] = true
@@ -62,10 +67,7 @@ storedAll t (w ∷ ws) = storedAll (stored t (w .place) (w .value)) ws
 unfoldable pub storedUnless : ℕ → List ℤ → List Write → List ℤ
 storedUnless fault t ws = unlessMet fault (λ number. t) (storedAll t ws)
 
--- what is given to an item: a value, or nothing
-pub data Given : Type 0 where
-  Value : ℤ → Given
-  Nothing : Given
+-- ---- what an item is given: a value, or nothing
 
 -- what is given later, and where that is nothing what was given before
 abbrev pub later : Given → Given → Given

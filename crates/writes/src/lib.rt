@@ -3,15 +3,21 @@ ghost use mathlib.Core.Path.{_≡_};
 ghost use Prim.Native.Nat.{_+_, _*_, _/_, _≤_, _<_};
 ghost use lib.ListN.{length, getD};
 ghost use Rattle.numbers.specs.Promise.{Lent};
-ghost use Rattle.items.specs.ItemList.{mapSize};
+ghost use Rattle.items.specs.ItemList.{mapSize, placeOf};
 ghost use Rattle.registers.specs.Register.{ofRegister, word};
-ghost use Rattle.writes.specs.Writes.{writes, writable, inside, each, storedAll};
+ghost use Rattle.writes.specs.Writes.{writes, writable, inside, allowed, each, storedAll, given};
 ghost use Rattle.writes.specs.Requests.{writeFault, writtenByOne, severalFault, writtenBySeveral};
 use numbers::NONE;
 use registers::BODY_LENGTH;
 use registers::DATA_PLACE;
 use registers::WRONG_DATA;
 use registers::WRONG_REGISTER;
+
+// What is given to an item.
+pub enum Given {
+    Value(i32),
+    Nothing,
+}
 
 // ---- 06H: a register and a value
 
@@ -153,4 +159,57 @@ pub fn write_several(table: &mut [i32], body: &[u8]) -> u8
         &body[DATA_PLACE..],
     );
     NONE
+}
+
+// ---- what data gives, where its request is allowed
+
+// Whether a writable item has the place, and the value is in its range.
+fn is_allowed(place: usize, value: i32) -> bool
+    ensures { λ r. ⌜ r ≡ allowed (record { place = place; value = value }) ⌝ }
+{
+    items::writable(place) & items::in_range(place, value)
+}
+
+// The place of the item whose register is so many behind the start; past the list where no item has it.
+fn place_behind(start: u16, i: usize) -> usize
+    requires { ⌜ i < 0x8000000000000000 ⌝ }
+    ensures { λ r. ⌜ r ≡ placeOf (start + i) ⌝ }
+{
+    let register = start as usize + i;
+    if register < items::MAP_SIZE {
+        items::place_of(register as u16)
+    } else {
+        items::ITEMS
+    }
+}
+
+// Whether each register is that of a writable item and each value in the range of its item. Which fails is not told, and one loop serves
+// requests of either kind.
+pub fn all_allowed(start: u16, bytes: &[u8]) -> bool
+    ensures { λ r. ⌜ r ≡ each allowed (writes start (now (bytes .entry))) ⌝ }
+{
+    let quantity = bytes.len() / 2;
+    let mut i = 0;
+    while i < quantity {
+        if !is_allowed(place_behind(start, i), value_behind(bytes, i)) {
+            return false;
+        }
+        i += 1;
+    }
+    true
+}
+
+// What bytes of data for the registers from a start on give an item. The last of them that is the item's counts, so they are
+// looked at from the back.
+pub fn given_to(start: u16, bytes: &[u8], item: usize) -> Given
+    ensures { λ r. ⌜ r ≡ given (writes start (now (bytes .entry))) item ⌝ }
+{
+    let mut left = bytes.len() / 2;
+    while 0 < left {
+        left -= 1;
+        if place_behind(start, left) == item {
+            return Given::Value(value_behind(bytes, left));
+        }
+    }
+    Given::Nothing
 }

@@ -8,6 +8,7 @@
 //! Numbers that a call can meet are tried in their order. Numbers 1 to 9 leave the state, the
 //! table and the reply buffer as they came; bytes of the buffer past a reply stay.
 
+pub mod capture;
 pub mod items;
 pub mod line;
 pub mod link;
@@ -155,6 +156,44 @@ pub fn write_text(decimals: u8, value: i32, chars: &mut [u8]) -> u32 {
         }
         Err(number) => {
             chars[..6].fill(0);
+            number
+        }
+    }
+}
+
+/// Plays a capture back: the table becomes what an instrument at this address ends with that begins
+/// at the start table and is handed the frames one at a time. 1, 4, 51, or 0 whatever the frames
+/// gave. The lent table is only where the result goes, so there is no 2; a refusal leaves it.
+pub fn playback(table: &mut [i32], address: u8, capture: &[u8]) -> u32 {
+    if table.len() != 12 {
+        return 1;
+    }
+    if address == 0 || address > 99 {
+        return 4;
+    }
+    let frames = match capture::frames(capture) {
+        Some(frames) => frames,
+        None => return 51,
+    };
+    start_table(table);
+    for frame in frames {
+        modbus::answer(table, address, &capture[frame]);
+    }
+    0
+}
+
+/// Shows a frame of a capture by its place and length there: 51, 52 or 0. A refused showing gives
+/// place 0 and length 0.
+pub fn show(capture: &[u8], frame: u32, place: &mut u32, length: &mut u32) -> u32 {
+    match capture::shown(capture, frame) {
+        Ok(part) => {
+            *place = part.start as u32;
+            *length = part.len() as u32;
+            0
+        }
+        Err(number) => {
+            *place = 0;
+            *length = 0;
             number
         }
     }

@@ -202,6 +202,31 @@ fn pdu(request: &str) {
     println!("pdu {} -> {}: {}", request, number, hex(response));
 }
 
+/// A capture played back.
+fn playback(address: u8, capture: &str) {
+    let mut table = [0; 12];
+    let number = reference::playback(&mut table, address, &bytes(capture));
+    if number == 0 {
+        let entries = table.map(|entry| entry.to_string()).join(" ");
+        println!("playback {:02X}: {} -> 0: {}", address, capture, entries);
+    } else {
+        println!("playback {:02X}: {} -> {}", address, capture, number);
+    }
+}
+
+/// A frame of a capture shown.
+fn show(frame: u32, capture: &str) {
+    let (mut place, mut length) = (0, 0);
+    let captured = bytes(capture);
+    let number = reference::show(&captured, frame, &mut place, &mut length);
+    if number == 0 {
+        let part = &captured[place as usize..][..length as usize];
+        println!("show {}: {} -> 0: {}", frame, capture, hex(part));
+    } else {
+        println!("show {}: {} -> {}", frame, capture, number);
+    }
+}
+
 /// Document 01.
 fn specification() {
     read("PB", "-.5");
@@ -307,6 +332,17 @@ fn modbus_documents() {
     pdu("10 00 10 00 03 06 FF 6A 03 E8 00 64");
 }
 
+/// Document 02's captures: none recorded, three frames, and one frame where the trailer counts two.
+fn captures() {
+    let three = "01 06 00 10 01 02 08 5E 00 08 01 06 00 10 FF 6A 49 D0 00 08 \
+                 01 06 00 F4 00 32 49 ED 00 08 00 03 00 00 00 14";
+    playback(1, "00 00 00 00 00 00");
+    playback(1, three);
+    show(2, three);
+    show(4, three);
+    playback(1, "01 06 00 10 01 02 08 5E 00 08 00 02 00 00 00 00");
+}
+
 fn main() {
     specification();
     sa100l();
@@ -314,4 +350,5 @@ fn main() {
     rex_f9000();
     pg500();
     modbus_documents();
+    captures();
 }

@@ -13,6 +13,8 @@ pub enum Function {
     Put,
     ReadText,
     WriteText,
+    Playback,
+    Show,
 }
 
 impl Function {
@@ -27,6 +29,8 @@ impl Function {
             Function::Put => "vb_put",
             Function::ReadText => "vb_read_text",
             Function::WriteText => "vb_write_text",
+            Function::Playback => "vb_playback",
+            Function::Show => "vb_show",
         }
     }
 }
@@ -41,20 +45,23 @@ pub struct Call {
     pub decimals: u8,
     pub now: u32,
     pub item: u32,
+    /// The number of a frame in a capture.
+    pub frame: u32,
     pub value: i32,
     pub state: Vec<u8>,
-    /// The item values; for a reading of text the one value that it sets.
+    /// The item values; for a reading of text the one value that it sets, for a showing the place
+    /// and the length.
     pub table: Vec<i32>,
     pub reply: Vec<u8>,
-    /// A frame, or number text.
+    /// A frame, number text, or a capture.
     pub input: Vec<u8>,
 }
 
 /// What stands before and behind each lent array in the driver.
 const GUARD: [u8; 8] = [0xC3; 8];
 
-/// The driver's room for one lent array, in bytes.
-const ARRAY_MOST: usize = 512;
+/// The driver's room for one lent array, in bytes: a capture may be too long.
+const ARRAY_MOST: usize = 65_536 + 512;
 
 /// The names of the lent arrays, in the driver's order.
 const ARRAYS: [&str; 4] = ["state", "table", "reply", "input"];
@@ -69,6 +76,7 @@ impl Call {
             decimals: 0,
             now: 0,
             item: 0,
+            frame: 0,
             value: 0,
             state: vec![],
             table: vec![],
@@ -104,6 +112,8 @@ impl Call {
             Function::Put => reference::put(table, self.item, self.value),
             Function::ReadText => reference::read_text(self.decimals, input, &mut table[0]),
             Function::WriteText => reference::write_text(self.decimals, self.value, input),
+            Function::Playback => reference::playback(table, self.address, input),
+            Function::Show => show(input, self.frame, table),
         }
     }
 
@@ -131,6 +141,7 @@ impl Call {
         to.extend([0; 3]);
         to.extend(self.now.to_le_bytes());
         to.extend(self.item.to_le_bytes());
+        to.extend(self.frame.to_le_bytes());
         to.extend(self.value.to_le_bytes());
         for array in &lent {
             assert!(
@@ -181,7 +192,7 @@ impl fmt::Display for Call {
         write!(
             to,
             "{} address {:02X} structure {:02X} byte {:02X} decimals {:02X} \
-             now {:08X} item {:08X} value {:08X}",
+             now {:08X} item {:08X} frame {:08X} value {:08X}",
             self.function.name(),
             self.address,
             self.structure,
@@ -189,6 +200,7 @@ impl fmt::Display for Call {
             self.decimals,
             self.now,
             self.item,
+            self.frame,
             self.value,
         )?;
         for (name, array) in ARRAYS.iter().zip(self.lent()) {
@@ -198,8 +210,22 @@ impl fmt::Display for Call {
     }
 }
 
-/// Pairs of hexadecimal digits.
+/// Shows a frame by the reference. Its place and its length go where other calls have the first two
+/// entries of the table.
+fn show(capture: &[u8], frame: u32, table: &mut [i32]) -> u32 {
+    let [mut place, mut length] = [table[0] as u32, table[1] as u32];
+    let number = reference::show(capture, frame, &mut place, &mut length);
+    table[0] = place as i32;
+    table[1] = length as i32;
+    number
+}
+
+/// Pairs of hexadecimal digits; of a long capture those at both ends.
 fn hex(bytes: &[u8]) -> String {
+    if bytes.len() > 1024 {
+        let (front, back) = (&bytes[..64], &bytes[bytes.len() - 64..]);
+        return format!("{} .. {}", hex(front), hex(back));
+    }
     let pairs: Vec<String> = bytes.iter().map(|byte| format!("{byte:02X}")).collect();
     pairs.join(" ")
 }

@@ -6,8 +6,8 @@ use crate::failure::{Checked, Failure};
 use crate::library::Library;
 
 /// A batch goes to the driver once it has this many bytes. With the last call it stays below the
-/// driver's limit of 2^20.
-const BATCH_BYTES: usize = 1_000_000;
+/// driver's limit of 2^20, also where that call brings the longest capture.
+const BATCH_BYTES: usize = 900_000;
 
 /// Calls as they were before they were made, and the answers that the reference gives to them.
 #[derive(Default)]
@@ -37,7 +37,7 @@ pub struct Compare {
     /// Calls whose outcomes were found the same.
     calls: u64,
     /// How often each number was given back by each function.
-    counts: [[u64; 256]; 8],
+    counts: [[u64; 256]; 10],
     /// The same for frames, by the Modbus function that they ask for.
     asked: Vec<[u64; 256]>,
 }
@@ -51,7 +51,7 @@ impl Compare {
             filling: Batch::default(),
             running: Batch::default(),
             calls: 0,
-            counts: [[0; 256]; 8],
+            counts: [[0; 256]; 10],
             asked: vec![[0; 256]; 256],
         })
     }

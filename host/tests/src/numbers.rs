@@ -8,7 +8,7 @@ use crate::failure::{Checked, Failure};
 /// The numbers that each function can give back. Number 46 of the specification, for an item whose
 /// value does not fit six characters, is none of them: a table with a value outside an item's range
 /// is refused before, and every value inside fits.
-const GIVEN: [(Function, &[usize]); 8] = [
+const GIVEN: [(Function, &[usize]); 10] = [
     (Function::StartTable, &[0, 1]),
     (Function::StartLink, &[0, 5]),
     (
@@ -22,6 +22,8 @@ const GIVEN: [(Function, &[usize]); 8] = [
     (Function::Put, &[0, 1, 2, 6, 7]),
     (Function::ReadText, &[0, 9, 15, 16]),
     (Function::WriteText, &[0, 3, 8, 9]),
+    (Function::Playback, &[0, 1, 4, 51]),
+    (Function::Show, &[0, 51, 52]),
 ];
 
 /// The numbers that a frame can give back by the Modbus function that it asks for.

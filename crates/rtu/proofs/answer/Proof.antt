@@ -10,7 +10,7 @@ use Rattle.modbus.specs.Rules.{acted}
 use Rattle.modbus.specs.Promise.{Gives}
 use Rattle.modbus.proofs.Acting.{gives-by, within-room}
 use Rattle.modbus.proofs.Laws.{reply-short}
-use Rattle.rtu.proofs.Refusals.{not-refused, call-has-room, frame-has-body}
+use Rattle.rtu.proofs.Refusals.{not-refused, is-fine, frame-has-body}
 use Rattle.rtu.proofs.Replies.{gives-silent, gives-sealed}
 use borrow.Author.Needs.{needs}
 use Rattle.rtu.proofs.answer.Statement.{statement}
@@ -21,7 +21,7 @@ body : (c : tie.Start) → 4 ≤ length (c .args .frame .now)
 body c = frame-has-body _ (not-refused _ _ (c .pre) .1)
 
 room : (c : tie.Start) → 256 ≤ length (c .args .reply .now)
-room c = call-has-room _ (not-refused _ _ (c .pre) .0)
+room c = is-fine _ (not-refused _ _ (c .pre) .0) .room
 
 sub-n : tie.Need-sub-n
 sub-n c = let h = body (c .before .before) in omega arith

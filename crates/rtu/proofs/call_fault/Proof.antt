@@ -1,10 +1,10 @@
 -- `rtu::call_fault` meets its contract: each way out is one of the caller's faults, or none. Assumes nothing.
-use mathlib.Core.Path.{sym, _∙_}
-use mathlib.Core.Logic.{⊎-elim}
+use mathlib.Core.Path.{_≡_, sym, ap, _∙_}
+use mathlib.Core.Bool.{Bool}
 use native.Mathlib.Omega.{arith}
-use borrow.Author.Tests.{leb-true, leb-false}
-use Rattle.rtu.specs.Frame.{Call}
-use Rattle.rtu.proofs.Refusals.{call-table, call-room, call-below, call-above, call-right}
+use Rattle.numbers.specs.Numbers.{unless, badSetting}
+use Rattle.rtu.specs.Frame.{callFault}
+use Rattle.rtu.proofs.Refusals.{call-table, call-room, call-address}
 use borrow.Author.Needs.{needs}
 use Rattle.rtu.proofs.call_fault.Statement.{statement}
 use Rattle.rtu.proofs.call_fault.Tie as tie
@@ -22,20 +22,22 @@ returns-2 c =
     let e = c .before .before .check .ensures in
     sym (call-room _ (sym e ∙ c .before .if1 .left) (omega arith))
 
+is-address-requires : tie.Need-is-address-requires
+is-address-requires c κs = search needs
+
+-- what the caller's faults come to after the address was looked at
+looked : (c : tie.After-is-address) →
+    let a = c .before .before .before .before .before .args in
+    callFault (record { table = a .table .now; buffer = a .reply .now; address = a .address }) ≡ unless (c .is-address .result) badSetting
+looked c =
+    let l = c .before .before in
+    call-address _ (sym (l .before .check .ensures) ∙ l .if1 .left) (omega arith) (c .is-address .ensures)
+
 returns-3 : tie.Need-returns-3
-returns-3 c =
-    let l = c .before .before .before in
-    sym (call-right _ (sym (l .before .check .ensures) ∙ l .if1 .left) (omega arith) (omega arith) (omega (arith, leb-true)))
+returns-3 c = sym (looked (c .before) ∙ ap (λ (b : Bool). unless b badSetting) (c .if3 .taken))
 
 returns-4 : tie.Need-returns-4
-returns-4 c =
-    let l = c .before .before in
-    let a = l .before .before .before .args in
-    let call : Call = record { table = a .table .now; buffer = a .reply .now; address = a .address } in
-    let fine = sym (l .before .check .ensures) ∙ l .if1 .left in
-    ⊎-elim (λ w. sym (call-above call fine (omega arith) (omega (arith, leb-false))))
-    (λ w. sym (call-below call fine (omega arith) (omega arith)))
-    (c .if3 .came)
+returns-4 c = sym (looked (c .before) ∙ ap (λ (b : Bool). unless b badSetting) (c .if3 .left))
 
 pub call-fault-spec : {M : Type 1} → statement M
-call-fault-spec = tie.close (tie.spec check-requires returns returns-2 returns-3 returns-4)
+call-fault-spec = tie.close (tie.spec check-requires returns returns-2 is-address-requires returns-3 returns-4)

@@ -17,6 +17,7 @@ struct Request {
     decimals: u8,
     now: u32,
     item: u32,
+    frame: u32,
     value: i32,
     state: Vec<u8>,
     table: Vec<i32>,
@@ -40,7 +41,8 @@ fn word(from: &mut &[u8]) -> u32 {
 /// Takes the next request of a batch.
 fn request(from: &mut &[u8]) -> Request {
     let head = take(from, 8);
-    let (now, item, value) = (word(from), word(from), word(from) as i32);
+    let (now, item, frame) = (word(from), word(from), word(from));
+    let value = word(from) as i32;
     let lengths = [0; 4].map(|_| word(from) as usize);
     Request {
         function: head[0],
@@ -50,6 +52,7 @@ fn request(from: &mut &[u8]) -> Request {
         decimals: head[4],
         now,
         item,
+        frame,
         value,
         state: take(from, lengths[0]).to_vec(),
         table: entries(take(from, lengths[1])),
@@ -89,8 +92,19 @@ fn call(request: &mut Request) -> u32 {
         4 => reference::rtu(table, reply, request.address, input),
         5 => reference::put(table, request.item, request.value),
         6 => reference::read_text(request.decimals, input, &mut table[0]),
-        _ => reference::write_text(request.decimals, request.value, input),
+        7 => reference::write_text(request.decimals, request.value, input),
+        8 => reference::playback(table, request.address, input),
+        _ => show(input, request.frame, table),
     }
+}
+
+/// Shows a frame. Its place and its length go where other calls have the first two entries.
+fn show(capture: &[u8], frame: u32, table: &mut [i32]) -> u32 {
+    let [mut place, mut length] = [table[0] as u32, table[1] as u32];
+    let number = reference::show(capture, frame, &mut place, &mut length);
+    table[0] = place as i32;
+    table[1] = length as i32;
+    number
 }
 
 /// Adds the answer to a request.

@@ -2,6 +2,7 @@
 
 mod block;
 mod calls;
+mod captures;
 mod phases;
 mod polling_on;
 mod rtu;

@@ -1,4 +1,4 @@
-use super::several;
+use super::{captures, several};
 use crate::call::{Call, Function};
 use crate::compare::Compare;
 use crate::failure::Checked;
@@ -15,8 +15,10 @@ const WITH_TABLE: [Function; 3] = [Function::Byte, Function::Rtu, Function::Put]
 /// A call with nothing outside its limits.
 fn good(random: &mut Random, function: Function) -> Call {
     let phase = random.below(usize::from(PHASES)) as u8;
-    // A frame that leaves the table, or one that writes.
-    let input = if random.one_in(2) {
+    // A frame that leaves the table, or one that writes; for a playback a capture of some.
+    let input = if function == Function::Playback {
+        captures::Parts::of(&captures::good(random, 3)).capture()
+    } else if random.one_in(2) {
         vec![1, 8, 0, 0, 0x1F, 0x34, 0xE9, 0xEC]
     } else {
         several::accepted(random, 1)
@@ -57,8 +59,14 @@ pub fn entries(compare: &mut Compare, random: &mut Random) -> Checked<()> {
 
 /// Any mixture of faults, so that each number is met in its place in the order.
 pub fn together(compare: &mut Compare, random: &mut Random) -> Checked<()> {
-    let functions = [Function::Byte, Function::Idle, Function::Rtu, Function::Put];
-    for _ in 0..40_000 {
+    let functions = [
+        Function::Byte,
+        Function::Idle,
+        Function::Rtu,
+        Function::Put,
+        Function::Playback,
+    ];
+    for _ in 0..50_000 {
         let function = random.pick(&functions);
         let mut call = good(random, function);
         if random.one_in(3) {
@@ -76,6 +84,9 @@ pub fn together(compare: &mut Compare, random: &mut Random) -> Checked<()> {
         }
         if random.one_in(3) {
             call.state = odd_state(random);
+        }
+        if function == Function::Playback && random.one_in(3) {
+            call.input = captures::any_capture(random);
         }
         if random.one_in(3) {
             call.item = random.pick(&[0, 1, 12, 13, u32::MAX]);

@@ -1,6 +1,7 @@
 //! The groups of calls. Each takes one part of the C face and tries what could go wrong there.
 
 mod blocks;
+mod captures;
 mod damage;
 mod frames;
 mod idle;
@@ -18,8 +19,9 @@ mod sessions;
 mod several;
 mod start;
 
+use crate::call::Call;
 use crate::compare::Compare;
-use crate::failure::Checked;
+use crate::failure::{Checked, Failure};
 use crate::random::Random;
 
 type Calls = fn(&mut Compare, &mut Random) -> Checked<()>;
@@ -34,6 +36,8 @@ const GROUPS: &[(&str, Calls)] = &[
     ("order of a put's refusals", order::put),
     ("order of a reading's refusals", order::read),
     ("order of a writing's refusals", order::written),
+    ("order of a playback's refusals", order::playback),
+    ("order of a showing's refusals", order::show),
     ("every byte in every phase", phases::every_byte),
     ("every digit of every address", phases::digits),
     ("entries beside their range", limits::entries),
@@ -54,6 +58,16 @@ const GROUPS: &[(&str, Calls)] = &[
     ("several registers into bad tables", several::lent),
     ("several registers at every address", several::addresses),
     ("frames of every kind and length", requests::every),
+    ("captures of every size", captures::sizes),
+    ("lengths in a capture's records", captures::lengths),
+    ("trailers of captures", captures::trailers),
+    ("all of the smallest captures", captures::small),
+    ("captures with a byte wrong", captures::damaged),
+    ("every frame of a capture shown", captures::shown),
+    ("tables lent to a playback", captures::lent),
+    ("captures at every address", captures::addresses),
+    ("captured writes over each other", captures::overwritten),
+    ("the largest captures", captures::largest),
     ("edges of number text written", number_text::edges_written),
     ("characters of number text read", number_text::characters),
     ("number text read", number_text::read),
@@ -70,6 +84,8 @@ const GROUPS: &[(&str, Calls)] = &[
     ("sessions on the RKC line", sessions::whole),
     ("sessions on a bad line", sessions::damaged),
     ("sessions on the Modbus line", modbus_sessions::whole),
+    ("sessions played back", captures::sessions),
+    ("any capture", captures::any),
     ("faults of the caller, together", limits::together),
     ("noise in every argument", noise::anything),
     ("noise with a good table", noise::well_lent),
@@ -117,4 +133,16 @@ fn run(
         told(name, compare.calls() - before)?;
     }
     Ok(())
+}
+
+/// Makes a call that must give this number, and hands back what it leaves.
+fn gives(compare: &mut Compare, mut call: Call, number: u32) -> Checked<Call> {
+    let before = call.clone();
+    let given = compare.call(&mut call)? % 256;
+    if given == number {
+        return Ok(call);
+    }
+    Err(Failure::wrong(format!(
+        "number {number} comes first, {given} was given\n{before}"
+    )))
 }

@@ -1,4 +1,4 @@
-use super::several;
+use super::{captures, several};
 use crate::call::{Call, Function};
 use crate::compare::Compare;
 use crate::failure::Checked;
@@ -6,7 +6,8 @@ use crate::random::Random;
 use crate::shapes::{bad_state, good_table};
 use reference::modbus::with_crc;
 
-/// Anything at all, in arrays of any length. A reading of text has room for its value.
+/// Anything at all, in arrays of any length. A reading of text has room for its value, a showing for
+/// place and length.
 pub fn anything(compare: &mut Compare, random: &mut Random) -> Checked<()> {
     let functions = [
         Function::StartTable,
@@ -17,9 +18,11 @@ pub fn anything(compare: &mut Compare, random: &mut Random) -> Checked<()> {
         Function::Put,
         Function::ReadText,
         Function::WriteText,
+        Function::Playback,
+        Function::Show,
     ];
     for _ in 0..40_000 {
-        let entries = 1 + random.below(30);
+        let entries = 2 + random.below(30);
         compare.call(&mut Call {
             function: random.pick(&functions),
             address: random.byte(),
@@ -28,6 +31,7 @@ pub fn anything(compare: &mut Compare, random: &mut Random) -> Checked<()> {
             decimals: random.byte(),
             now: random.word(),
             item: random.word(),
+            frame: random.word(),
             value: random.word() as i32,
             state: random.some_bytes(30),
             table: (0..entries).map(|_| random.word() as i32).collect(),
@@ -39,25 +43,37 @@ pub fn anything(compare: &mut Compare, random: &mut Random) -> Checked<()> {
 }
 
 /// Noise that no caller's fault keeps from being looked at: a good table, room for the reply and
-/// good settings, with any state, bytes, times, frames, items and values.
+/// good settings, with any state, bytes, times, frames, captures, items and values.
 pub fn well_lent(compare: &mut Compare, random: &mut Random) -> Checked<()> {
-    let functions = [Function::Byte, Function::Idle, Function::Rtu, Function::Put];
-    for _ in 0..80_000 {
+    let functions = [
+        Function::Byte,
+        Function::Idle,
+        Function::Rtu,
+        Function::Put,
+        Function::Playback,
+        Function::Show,
+    ];
+    for _ in 0..120_000 {
         let address = random.between(1, 99) as u8;
         let length = 256 + random.below(50);
+        let function = random.pick(&functions);
         compare.call(&mut Call {
-            function: random.pick(&functions),
+            function,
             address,
             structure: random.below(3) as u8,
             byte: random.byte(),
             now: random.word(),
             item: random.below(14) as u32,
+            frame: random.below(5) as u32,
             value: random.between(-2100, 10_100),
             state: bad_state(random),
             table: good_table(random),
             reply: random.bytes(length),
-            input: frame(random, address),
-            ..Call::new(Function::Rtu)
+            input: match function {
+                Function::Playback | Function::Show => captures::any_capture(random),
+                _ => frame(random, address),
+            },
+            ..Call::new(function)
         })?;
     }
     Ok(())

@@ -4,20 +4,23 @@
 //! reference gives.
 
 mod byte;
+mod captures;
 mod frames;
 mod idle;
 mod put;
 mod text;
 
 pub use byte::faults as byte;
+pub use captures::{playback, show};
 pub use frames::faults as frames;
 pub use idle::faults as idle;
 pub use put::faults as put;
 pub use text::{read, written};
 
+use super::gives;
 use crate::call::Call;
 use crate::compare::Compare;
-use crate::failure::{Checked, Failure};
+use crate::failure::Checked;
 use crate::random::Random;
 use crate::shapes::{any_value, outside_limits, pattern};
 use reference::items::in_range;
@@ -47,18 +50,6 @@ fn every_set(
         gives(compare, spoiled, first)?;
     }
     Ok(())
-}
-
-/// Makes a call that must give this number.
-fn gives(compare: &mut Compare, mut call: Call, number: u32) -> Checked<()> {
-    let before = call.clone();
-    let given = compare.call(&mut call)? % 256;
-    if given == number {
-        return Ok(());
-    }
-    Err(Failure::wrong(format!(
-        "number {number} comes first, {given} was given\n{before}"
-    )))
 }
 
 /// 1: a table of another length.

@@ -1,0 +1,92 @@
+-- A capture of RTU frames: records, and behind them a trailer. A record has the bytes of a frame and then two with their number, so it
+-- is found by the place that it ends in front of, and the walk goes back from end to end, beginning at the trailer.
+use Prim.Native.Nat.{ℕ, zero, suc, _+_, _-_, _*_}
+use mathlib.Core.Bool.{Bool, _&&_}
+use mathlib.Core.List.{List, [], _∷_, _++_}
+use lib.Dec.{eqb, leb}
+use lib.ListN.{length, getD, take, drop}
+use Rattle.numbers.specs.Numbers.{unless, firstMet}
+use Rattle.registers.specs.Register.{word}
+
+-- the number given back here
+abbrev pub badCapture : ℕ
+badCapture = 51
+
+-- the most bytes that a capture has, and a frame
+abbrev pub longestCapture : ℕ
+longestCapture = 65536
+
+abbrev pub longestFrame : ℕ
+longestFrame = 256
+
+-- the number that two bytes from a place on make, the high one first, and that four make
+abbrev pub twoAt : List ℕ → ℕ → ℕ
+twoAt c i = word (getD c i 0) (getD c (i + 1) 0)
+
+abbrev pub fourAt : List ℕ → ℕ → ℕ
+fourAt c i = twoAt c i * 0x10000 + twoAt c (i + 2)
+
+-- ---- a record: the bytes of a frame, then two with their number
+
+abbrev pub sizeBytes : ℕ
+sizeBytes = 2
+
+-- how many bytes a frame has whose record ends in front of a place
+unfoldable pub size : List ℕ → ℕ → ℕ
+size c end = twoAt c (end - sizeBytes)
+
+-- where that record begins
+unfoldable pub begins : List ℕ → ℕ → ℕ
+begins c end = end - (size c end + sizeBytes)
+
+-- whether one ends there: its frame has 1 to 256 bytes, and it does not begin before place 0
+unfoldable pub recordEnds : List ℕ → ℕ → Bool
+recordEnds c end = leb 1 (size c end) && leb (size c end) longestFrame && leb (size c end + sizeBytes) end
+
+-- its frame
+unfoldable pub frameBefore : List ℕ → ℕ → List ℕ
+frameBefore c end = take (size c end) (drop (begins c end) c)
+
+-- ---- the trailer: two bytes with the number of records, four with the place where the last one begins
+
+abbrev pub trailerLength : ℕ
+trailerLength = 6
+
+unfoldable pub trailerPlace : List ℕ → ℕ
+trailerPlace c = length c - trailerLength
+
+unfoldable pub count : List ℕ → ℕ
+count c = twoAt c (trailerPlace c)
+
+unfoldable pub lastPlace : List ℕ → ℕ
+lastPlace c = fourAt c (trailerPlace c + 2)
+
+-- ---- the walk back
+
+-- so many records, each in front of the other, lead back from a place to place 0
+abbrev pub reaches : List ℕ → ℕ → ℕ → Bool
+reaches c zero end = eqb end 0
+reaches c (suc n) end = recordEnds c end && reaches c n (begins c end)
+
+-- the last record begins at the trailer's place, and the walk from the trailer reaches place 0 after exactly as many records as it
+-- says. In six bytes with none the place is 0, which is where a record that ends at place 0 would begin.
+unfoldable pub wellFormed : List ℕ → Bool
+wellFormed c = eqb (lastPlace c) (begins c (trailerPlace c)) && reaches c (count c) (trailerPlace c)
+
+-- the fault of a capture: its length, or that it is not well formed
+unfoldable pub captureFault : List ℕ → ℕ
+captureFault c =
+    firstMet
+    (unless (leb trailerLength (length c) && leb (length c) longestCapture) badCapture
+    ∷ unless (wellFormed c) badCapture
+    ∷ [])
+
+-- ---- its frames, from the front
+
+-- those of so many records that lead back from a place
+abbrev pub framesTo : List ℕ → ℕ → ℕ → List (List ℕ)
+framesTo c zero end = []
+framesTo c (suc n) end = framesTo c n (begins c end) ++ (frameBefore c end ∷ [])
+
+unfoldable pub frames : List ℕ → List (List ℕ)
+frames c = framesTo c (count c) (trailerPlace c)

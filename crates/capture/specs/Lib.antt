@@ -1,0 +1,4 @@
+pub mod Format
+pub mod Recorded
+pub mod Show
+pub mod Claims

@@ -1,0 +1,62 @@
+-- What is claimed in specs/Claims.antt of every playback.
+-- Assumes nothing.
+use mathlib.Core.Path.{_≡_, refl, sym, ap, _∙_}
+use mathlib.Core.Bool.{true, false}
+use mathlib.Core.List.{List, [], _∷_}
+use Prim.Native.Nat.{ℕ}
+use borrow.Author.Tests.{eq-eqb}
+use lib.IntN.{ℤ}
+use Rattle.numbers.specs.Numbers.{none}
+use Rattle.numbers.proofs.Order.{is-refused, is-done}
+use Rattle.items.specs.ItemList.{itemAt}
+use Rattle.table.specs.Table.{goodTable, tableFault, startValues, entry}
+use Rattle.table.proofs.Laws.{good-length}
+use Rattle.rtu.specs.Frame.{Call, callFault}
+use Rattle.rtu.proofs.Refusals.{is-fine}
+use Rattle.rtu.proofs.Demands.{frame-read-only}
+use Rattle.capture.specs.Format.{frames}
+use Rattle.playback.specs.Playback.{after, handedOver, atStart, playNumber, played}
+use Rattle.playback.specs.Claims.{OfPlayback}
+use Rattle.playback.proofs.Frames.{start-fine, handed-fine, handed-writes, last-writes}
+use Rattle.playback.proofs.Played.{address-right, start-at, start-length}
+
+-- frames leave the entries of read-only items
+handed-read-only : (fs : List (List ℕ)) (call : Call) (i : ℕ) → itemAt i .writable ≡ false
+    → entry (handedOver call fs .table) i ≡ entry (call .table) i
+unfolding after
+handed-read-only [] call i r = refl
+handed-read-only (f ∷ fs) call i r = handed-read-only fs (after call f) i r ∙ frame-read-only call f i r
+
+-- and a good table
+handed-good : (fs : List (List ℕ)) (call : Call) → callFault call ≡ none → goodTable (handedOver call fs .table) ≡ true
+handed-good fs call fine =
+    eq-eqb (tableFault (handedOver call fs .table)) none (is-fine (handedOver call fs) (handed-fine fs call fine) .table)
+
+module _ (t : List ℤ) (address : ℕ) (c : List ℕ) where
+  abbrev left : List ℤ
+  left = handedOver (atStart address) (frames c) .table
+
+  with-none : playNumber t address c ≡ none → played t address c ≡ left
+  unfolding played
+  with-none = is-done (playNumber t address c) (λ n. t) left
+
+  refused : (playNumber t address c ≡ none → ⊥) → played t address c ≡ t
+  unfolding played
+  refused = is-refused (playNumber t address c) (λ n. t) left
+
+pub playback-claimed : (t : List ℤ) (address : ℕ) (c : List ℕ) → OfPlayback t address c
+unfolding atStart
+playback-claimed t address c =
+    record {
+      refusalLeaves = refused t address c;
+      anyBuffer = λ e buffer room.
+          let right = address-right t address c e in
+          with-none t address c e
+          ∙ last-writes (frames c) (record { table = startValues; buffer = buffer; address = address }) (start-fine address buffer right room)
+          (record {
+            entries = good-length (left t address c) (handed-good (frames c) (atStart address) (start-at address right));
+            each = handed-writes (frames c) (atStart address) (start-at address right);
+          });
+      good = λ e. rw (with-none t address c e) (handed-good (frames c) (atStart address) (start-at address (address-right t address c e)));
+      readOnlyAtStart = λ e i r. rw (with-none t address c e) (handed-read-only (frames c) (atStart address) i r);
+    }

@@ -1,0 +1,137 @@
+-- Frames handed over one at a time: the caller of each makes no fault, and each entry ends with the last value that a frame writes to its
+-- item.
+-- Assumes nothing.
+use mathlib.Core.Path.{_≡_, refl, sym, ap, _∙_}
+use mathlib.Core.Bool.{Bool, true, false}
+use mathlib.Core.List.{List, [], _∷_, _++_}
+use Prim.Native.Nat.{ℕ, _≤_, _<_}
+use native.Mathlib.Omega.{arith}
+use borrow.Author.Tests.{eqb-true, eqb-false, eq-eqb, ne-eqb}
+use lib.Dec.{eqb}
+use lib.IntN.{ℤ, pos}
+use lib.ListN.{length, length-replicate}
+use lib.Seq.{length-sets, ext-getD}
+use Rattle.numbers.specs.Numbers.{none, leastBuffer}
+use Rattle.items.specs.ItemList.{items}
+use Rattle.table.specs.Table.{goodTable, tableFault, startValues, entry}
+use Rattle.table.proofs.Laws.{good-start, good-length}
+use Rattle.crc.specs.Crc.{bodyOf}
+use Rattle.writes.specs.declared.Given.{Given}
+use Rattle.writes.specs.declared.Given.the-variants.{Nothing}
+use Rattle.writes.specs.Writes.{given, later, over}
+use Rattle.writes.proofs.Stored.{later-none, later-assoc, over-later, all-given}
+use Rattle.modbus.specs.Outcome.{Outcome}
+use Rattle.modbus.specs.Rules.{acted}
+use Rattle.settings.specs.Settings.{writesOf, acceptsWrite}
+use Rattle.settings.proofs.Accepted.{accepted-stores, others-leave}
+use Rattle.rtu.specs.Frame.{Call, isAddress, callFault, frameFault, actedOn}
+use Rattle.rtu.proofs.Refusals.{is-fine, no-fault, refused-frame}
+use Rattle.rtu.proofs.Replies.{acted-refused, acted-answered}
+use Rattle.rtu.proofs.Demands.{frame-good}
+use Rattle.playback.specs.Playback.{after, handedOver, atStart}
+use Rattle.playback.specs.Settling.{wrote, lastWrite, LastWrites}
+
+-- ---- what a frame writes
+
+module _ (address : ℕ) (frame : List ℕ) (i : ℕ) where
+  pub refused-writes : (frameFault frame ≡ none → ⊥) → wrote address frame i ≡ Nothing
+  unfolding wrote
+  refused-writes f = rw (ne-eqb (frameFault frame) none f)
+
+  module _ (right : frameFault frame ≡ none) where
+    pub other-writes : acceptsWrite address (bodyOf frame) ≡ false → wrote address frame i ≡ Nothing
+    unfolding wrote
+    other-writes a = rw (eq-eqb (frameFault frame) none right, a)
+
+    pub accepted-writes : acceptsWrite address (bodyOf frame) ≡ true → wrote address frame i ≡ given (writesOf (bodyOf frame)) i
+    unfolding wrote
+    accepted-writes a = rw (eq-eqb (frameFault frame) none right, a)
+
+-- ---- one frame
+
+module _ (call : Call) (fine : callFault call ≡ none) (frame : List ℕ) where
+  good : goodTable (call .table) ≡ true
+  good = eq-eqb (tableFault (call .table)) none (is-fine call fine .table)
+
+  -- the next frame's caller makes no fault either
+  pub after-fine : callFault (after call frame) ≡ none
+  unfolding after
+  after-fine =
+      let room = is-fine call fine .room in
+      let same = length-sets (call .buffer) 0 (actedOn call frame .reply) in
+      no-fault (after call frame)
+      (record {
+        table = eqb-true (tableFault (actedOn call frame .table)) none (frame-good call frame good);
+        room = omega arith;
+        address = is-fine call fine .address;
+      })
+
+  -- each entry becomes what the frame writes to its item, and stays where it writes nothing
+  pub frame-writes : (i : ℕ) → i < items
+      → entry (after call frame .table) i ≡ over (entry (call .table) i) (wrote (call .address) frame i)
+  unfolding after
+  frame-writes i h = by (eqb (frameFault frame) none) (acceptsWrite (call .address) (bodyOf frame)) refl refl
+    where
+      -- a frame with a fault is refused, and any other is acted on as its message says
+      met : (frameFault frame ≡ none → ⊥) → actedOn call frame .table ≡ call .table
+      met wrong =
+          ap (λ (o : Outcome). o .table) (acted-refused call frame (λ e. wrong (sym (refused-frame call frame fine) ∙ e)))
+
+      obeyed : frameFault frame ≡ none → actedOn call frame .table ≡ acted (call .table) (call .address) (bodyOf frame) .table
+      obeyed right = ap (λ (o : Outcome). o .table) (acted-answered call frame (refused-frame call frame fine ∙ right))
+
+      by : (right accepted : Bool) → eqb (frameFault frame) none ≡ right → acceptsWrite (call .address) (bodyOf frame) ≡ accepted
+          → entry (actedOn call frame .table) i ≡ over (entry (call .table) i) (wrote (call .address) frame i)
+      by false accepted r a =
+          let wrong = eqb-false (frameFault frame) none r in
+          ap (λ (t : List ℤ). entry t i) (met wrong)
+          ∙ ap (over (entry (call .table) i)) (sym (refused-writes (call .address) frame i wrong))
+      by true false r a =
+          let right = eqb-true (frameFault frame) none r in
+          ap (λ (t : List ℤ). entry t i) (obeyed right ∙ others-leave (call .table) (call .address) (bodyOf frame) a)
+          ∙ ap (over (entry (call .table) i)) (sym (other-writes (call .address) frame i right a))
+      by true true r a =
+          let right = eqb-true (frameFault frame) none r in
+          ap (λ (t : List ℤ). entry t i) (obeyed right ∙ accepted-stores (call .table) (call .address) (bodyOf frame) a)
+          ∙ all-given (call .table) (writesOf (bodyOf frame)) i (omega (arith, good-length (call .table) good))
+          ∙ ap (over (entry (call .table) i)) (sym (accepted-writes (call .address) frame i right a))
+
+-- ---- frames one after the other
+
+pub handed-writes : (fs : List (List ℕ)) (call : Call) → callFault call ≡ none → (i : ℕ) → i < items
+    → entry (handedOver call fs .table) i ≡ over (entry (call .table) i) (lastWrite (call .address) fs i)
+unfolding after
+handed-writes [] call fine i h = refl
+handed-writes (f ∷ fs) call fine i h =
+    handed-writes fs (after call f) (after-fine call fine f) i h
+    ∙ ap (λ (v : ℤ). over v (lastWrite (call .address) fs i)) (frame-writes call fine f i h)
+    ∙ over-later (entry (call .table) i) (lastWrite (call .address) fs i) (wrote (call .address) f i)
+
+pub handed-fine : (fs : List (List ℕ)) (call : Call) → callFault call ≡ none → callFault (handedOver call fs) ≡ none
+handed-fine [] call fine = fine
+handed-fine (f ∷ fs) call fine = handed-fine fs (after call f) (after-fine call fine f)
+
+-- what begins at the start values makes no fault, in any buffer with room
+pub start-fine : (address : ℕ) (buffer : List ℕ) → isAddress address ≡ true → leastBuffer ≤ length buffer
+    → callFault (record { table = startValues; buffer = buffer; address = address }) ≡ none
+start-fine address buffer a room =
+    no-fault (record { table = startValues; buffer = buffer; address = address })
+    (record { table = eqb-true (tableFault startValues) none good-start; room = room; address = a })
+
+-- a table is the one that frames leave where each entry has the last value that they write to its item
+pub last-writes : (fs : List (List ℕ)) (call : Call) {left : List ℤ} → callFault call ≡ none
+    → LastWrites (call .address) fs (call .table) left → left ≡ handedOver call fs .table
+last-writes fs call {left} fine w =
+    let good = eq-eqb (tableFault (handedOver call fs .table)) none (is-fine (handedOver call fs) (handed-fine fs call fine) .table) in
+    let same = good-length (handedOver call fs .table) good in
+    ext-getD (pos 0) left (handedOver call fs .table) (w .entries ∙ sym same)
+    (λ i h. let inside : i < items = omega (arith, w .entries) in w .each i inside ∙ sym (handed-writes fs call fine i inside))
+
+-- ---- one frame more at the end
+
+pub last-one-more : (address : ℕ) (fs : List (List ℕ)) (f : List ℕ) (i : ℕ)
+    → lastWrite address (fs ++ (f ∷ [])) i ≡ later (wrote address f i) (lastWrite address fs i)
+last-one-more address [] f i = sym (later-none (wrote address f i))
+last-one-more address (g ∷ fs) f i =
+    ap (λ (x : Given). later x (wrote address g i)) (last-one-more address fs f i)
+    ∙ later-assoc (wrote address f i) (lastWrite address fs i) (wrote address g i)

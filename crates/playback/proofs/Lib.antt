@@ -1,0 +1,5 @@
+pub mod Frames
+pub mod Walked
+pub mod Played
+pub mod Claims
+pub mod Single

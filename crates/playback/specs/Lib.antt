@@ -1,0 +1,3 @@
+pub mod Playback
+pub mod Settling
+pub mod Claims

@@ -1,0 +1,41 @@
+// The examples of captures. Each public function writes the line of one example.
+use crate::show;
+use numbers::NONE;
+
+// What stands behind a number that is none: the values of a table.
+fn show_values(table: &[i32]) {
+    show::text(b":");
+    for i in 0..table.len() {
+        show::value(table[i]);
+    }
+}
+
+pub fn playback(address: u8, capture: &[u8]) {
+    show::text(b"playback");
+    show::byte(address);
+    show::text(b":");
+    show::bytes(capture);
+    show::arrow();
+    let mut table = [0i32; items::ITEMS];
+    let number = playback::play(&mut table, address, capture);
+    show::number(number);
+    if number == NONE {
+        show_values(&table);
+    }
+    show::end_of_line();
+}
+
+pub fn frame(frame: u8, capture: &[u8]) {
+    show::text(b"show");
+    show::number(frame);
+    show::text(b":");
+    show::bytes(capture);
+    show::arrow();
+    let number = capture::look_up(capture, frame as u32).number;
+    show::number(number);
+    if number == NONE {
+        show::text(b":");
+        show::bytes(capture::show(capture, frame as u32));
+    }
+    show::end_of_line();
+}
