@@ -2,14 +2,6 @@
 use crate::show;
 use numbers::NONE;
 
-// What stands behind a number that is none: the values of a table.
-fn show_values(table: &[i32]) {
-    show::text(b":");
-    for i in 0..table.len() {
-        show::value(table[i]);
-    }
-}
-
 pub fn playback(address: u8, capture: &[u8]) {
     show::text(b"playback");
     show::byte(address);
@@ -20,7 +12,8 @@ pub fn playback(address: u8, capture: &[u8]) {
     let number = playback::play(&mut table, address, capture);
     show::number(number);
     if number == NONE {
-        show_values(&table);
+        show::text(b":");
+        show::values(&table);
     }
     show::end_of_line();
 }

@@ -71,3 +71,9 @@ pub fn value(value: i32) {
     }
     io::print_decimal(STDOUT_FILENO, sign::size(value) as u64);
 }
+
+pub fn values(values: &[i32]) {
+    for i in 0..values.len() {
+        value(values[i]);
+    }
+}
