@@ -1,6 +1,6 @@
 -- What is claimed in specs/Claims.antt of every playback.
 -- Assumes nothing.
-use mathlib.Core.Path.{_≡_, refl, sym, ap, _∙_}
+use mathlib.Core.Path.{_≡_, refl, _∙_}
 use mathlib.Core.Bool.{true, false}
 use mathlib.Core.List.{List, [], _∷_}
 use Prim.Native.Nat.{ℕ}
@@ -18,7 +18,7 @@ use Rattle.capture.specs.Format.{frames}
 use Rattle.playback.specs.Playback.{after, handedOver, atStart, playNumber, played}
 use Rattle.playback.specs.Claims.{OfPlayback}
 use Rattle.playback.proofs.Frames.{start-fine, handed-fine, handed-writes, last-writes}
-use Rattle.playback.proofs.Played.{address-right, start-at, start-length}
+use Rattle.playback.proofs.Played.{address-right, start-at}
 
 -- frames leave the entries of read-only items
 handed-read-only : (fs : List (List ℕ)) (call : Call) (i : ℕ) → itemAt i .writable ≡ false

@@ -9,7 +9,7 @@ use native.Mathlib.Omega.{arith}
 use borrow.Author.Tests.{eqb-true, eqb-false, eq-eqb, ne-eqb}
 use lib.Dec.{eqb}
 use lib.IntN.{ℤ, pos}
-use lib.ListN.{length, length-replicate}
+use lib.ListN.{length}
 use lib.Seq.{length-sets, ext-getD}
 use Rattle.numbers.specs.Numbers.{none, leastBuffer}
 use Rattle.items.specs.ItemList.{items}
@@ -28,7 +28,7 @@ use Rattle.rtu.specs.Frame.{Call, isAddress, callFault, frameFault, actedOn}
 use Rattle.rtu.proofs.Refusals.{is-fine, no-fault, refused-frame}
 use Rattle.rtu.proofs.Replies.{acted-refused, acted-answered}
 use Rattle.rtu.proofs.Demands.{frame-good}
-use Rattle.playback.specs.Playback.{after, handedOver, atStart}
+use Rattle.playback.specs.Playback.{after, handedOver}
 use Rattle.playback.specs.Settling.{wrote, lastWrite, LastWrites}
 
 -- ---- what a frame writes

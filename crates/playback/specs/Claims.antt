@@ -9,7 +9,6 @@ use lib.ListN.{length}
 use Rattle.numbers.specs.Numbers.{none, leastBuffer}
 use Rattle.items.specs.ItemList.{itemAt}
 use Rattle.table.specs.Table.{goodTable, startValues, entry}
-use Rattle.rtu.specs.Frame.{Call}
 use Rattle.capture.specs.Format.{frames}
 use Rattle.playback.specs.Playback.{handedOver, playNumber, played}
 

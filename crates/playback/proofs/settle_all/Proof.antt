@@ -1,10 +1,9 @@
 -- `playback::settle_all` meets its contract. The loop's invariant: what is known, over what the frames that are left write, is what all frames write.
 -- Assumes nothing.
-use mathlib.Core.Path.{_≡_, refl, sym, _∙_}
-use Prim.Native.Nat.{ℕ, _<_}
+use mathlib.Core.Path.{refl, sym, _∙_}
 use mathlib.Core.Bool.{Bool, false}
 use native.Mathlib.Omega.{arith}
-use lib.ListN.{replicate, length-replicate, getD-replicate}
+use lib.ListN.{replicate, getD-replicate}
 use Rattle.items.specs.ItemList.{items}
 use Rattle.playback.proofs.Walked.{Walked, walk-starts, walk-on, walk-ends}
 use Rattle.playback.proofs.settle_all.Statement.{statement}

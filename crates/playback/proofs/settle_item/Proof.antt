@@ -1,8 +1,7 @@
 -- `playback::settle_item` meets its contract: an item stays where it is settled or is given nothing, and else takes its value.
 -- Assumes nothing.
-use mathlib.Core.Path.{_≡_, sym, ap, _∙_}
+use mathlib.Core.Path.{sym, _∙_}
 use Rattle.sign.proofs.Laws.{same}
-use Rattle.writes.specs.declared.Given.the-variants.{Value}
 use Rattle.writes.specs.Writes.{given}
 use Rattle.settings.specs.Settings.{writesOf}
 use Rattle.playback.proofs.Walked.{one-settled, one-not-given, one-given}
