@@ -1,14 +1,14 @@
 /* Vennebruis: the communication link of a panel indicator, as C functions.
  *
  * The library keeps nothing between calls and allocates nothing. All that it works on is lent by
- * the caller for one call: the table of item values, the state of the RKC link, and a buffer for
- * the reply.
+ * the caller for one call: the table of item values, the state of the RKC link, a buffer for the
+ * reply, and a capture of frames.
  *
  * What is lent
  *   Each lent array is a pointer with the number of its elements (bytes for uint8_t, entries for
- *   int32_t). The arrays of one call must not overlap. A pointer is never NULL, also where its
- *   length is 0, and is aligned as its type asks. A wrong length or wrong contents do no harm:
- *   they are refused by a number.
+ *   int32_t). The arrays of one call, and single values that it sets, must not overlap. A pointer
+ *   is never NULL, also where its length is 0, and is aligned as its type asks. A wrong length or
+ *   wrong contents do no harm: they are refused by a number.
  *
  *   Lengths are uint64_t and not size_t: the library has lengths of 64 bits on every processor, and
  *   both sides of a call must agree on them also where size_t has 32.
@@ -19,8 +19,8 @@
  *   VB_LENGTH is 0 nothing is to be sent. All bytes behind it stay as they were.
  *
  *   A number from 1 to 9 is the caller's fault, and such a call changes nothing that it was lent
- *   (the results of the two number text calls apart, see there). Any other number tells what the
- *   host did; firmware needs to act on none of them.
+ *   (the results of the two number text calls apart, see there). 51 and 52 are said of a capture.
+ *   Any other number tells what the host did; firmware needs to act on none of them.
  *
  * The way out of 2 and of 5
  *   Once an entry of the table lies outside its range, every call that looks at the table gives 2,
@@ -312,8 +312,8 @@ uint32_t vb_write_text(uint8_t decimals, int32_t value, uint8_t *chars, uint64_t
  * capture, cn what was recorded; 6 to VB_CAPTURE_BYTES bytes. It is read only
  *
  * Gives 0, or the first of 1, 4 and 51, and then the table stays. With 0 the frames may have given
- * anything: those that a panel passes over or refuses change nothing here either. Time and stack do
- * not depend on what the frames hold: the time grows as the capture's length does. */
+ * anything: those that a panel passes over or refuses change nothing here either. Replies are not
+ * made. The time grows as the capture's length does; the stack does not grow with it. */
 uint32_t vb_playback(int32_t *table, uint64_t tn, uint8_t address, const uint8_t *capture,
                      uint64_t cn);
 
