@@ -319,6 +319,7 @@ uint32_t vb_playback(int32_t *table, uint64_t tn, uint8_t address, const uint8_t
 
 /* Shows a frame of a capture: where its bytes begin in the capture, from 0, and how many they are.
  *
+ * capture, cn what was recorded, as for vb_playback
  * frame       its number: 1 is the first that was recorded
  * place       set to where it begins, or 0
  * length      set to its number of bytes, 1 to 256, or 0

@@ -98,7 +98,7 @@ static void repeat(const struct request *request, size_t frames) {
         capture_add(&capture, request->bytes, request->n);
 }
 
-static void record(const char *name) {
+static void make_capture(const char *name) {
     for (size_t i = 0; i < CAPTURES; i++)
         if (strcmp(name, captures[i].name) == 0)
             repeat(request_of(captures[i].request), captures[i].frames);
@@ -128,7 +128,7 @@ int main(int argc, char **argv) {
     vb_start_table(table, VB_TABLE_ENTRIES);
     vb_start_link(link_state, sizeof link_state);
     vb_put(table, VB_TABLE_ENTRIES, VB_M1, 1234);
-    record(argc > 2 ? argv[2] : "");
+    make_capture(argc > 2 ? argv[2] : "");
 
     const struct request *request = request_of(name);
     if (request != NULL)

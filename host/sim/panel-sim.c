@@ -5,18 +5,18 @@
 #include "line.h"
 #include "options.h"
 #include "panel.h"
-#include "record.h"
+#include "recording.h"
 #include "vennebruis.h"
 
 enum { STATUS_DONE = 0, STATUS_FAILED = 1, STATUS_BAD_USAGE = 2 };
 
 /* Whether all went well until the line ended. */
-static bool serve(struct line *line, const struct options *options, struct record *record) {
+static bool serve(struct line *line, const struct options *options, struct recording *recording) {
     struct panel panel = {.reply = {0}};
     vb_start_table(panel.table, VB_TABLE_ENTRIES);
     vb_start_link(panel.state, VB_STATE_BYTES);
     if (options->speech == SPEECH_RTU) {
-        return serve_rtu(&panel, line, options, record);
+        return serve_rtu(&panel, line, options, recording);
     }
     serve_rkc(&panel, line, options);
     return true;
@@ -25,15 +25,15 @@ static bool serve(struct line *line, const struct options *options, struct recor
 /* On a line that is open. The capture comes after it, so that an older one of the same name is not
    lost where there is no line. */
 static bool play(struct line *line, const struct options *options) {
-    struct record record;
-    if (!record_start(&record, options->record)) {
+    struct recording recording;
+    if (!recording_start(&recording, options->record)) {
         return false;
     }
     /* Whoever started it can go ahead from here. */
     puts(line->pseudo ? line->name : options->device);
     fflush(stdout);
-    bool well = serve(line, options, &record);
-    record_close(&record);
+    bool well = serve(line, options, &recording);
+    recording_close(&recording);
     return well;
 }
 

@@ -8,7 +8,7 @@
 
 #include "line.h"
 #include "options.h"
-#include "record.h"
+#include "recording.h"
 #include "vennebruis.h"
 
 struct panel {
@@ -20,7 +20,7 @@ struct panel {
 /* Answers until the line ends. False where a frame could not be recorded: it is not answered, nor
    is any after it. */
 bool serve_rtu(struct panel *panel, struct line *line, const struct options *options,
-               struct record *record);
+               struct recording *recording);
 
 /* Answers until the line ends. */
 void serve_rkc(struct panel *panel, struct line *line, const struct options *options);

@@ -39,7 +39,7 @@ static void answer(struct panel *panel, const struct line *line, const struct op
 }
 
 bool serve_rtu(struct panel *panel, struct line *line, const struct options *options,
-               struct record *record) {
+               struct recording *recording) {
     struct frame frame = {.length = 0};
     for (;;) {
         uint8_t bytes[FRAME_ROOM];
@@ -52,7 +52,7 @@ bool serve_rtu(struct panel *panel, struct line *line, const struct options *opt
         case HEARD_SILENCE:
             if (frame.length > 0) {
                 /* Before the answer: what a host was told is then in the capture. */
-                if (!record_frame(record, frame.bytes, frame.length)) {
+                if (!recording_frame(recording, frame.bytes, frame.length)) {
                     return false;
                 }
                 answer(panel, line, options, &frame);

@@ -13,7 +13,7 @@ use lib.Seq.{take-all, take-take, getD-take}
 use Rattle.numbers.specs.Numbers.{none}
 use Rattle.numbers.proofs.Tests.{both}
 use Rattle.numbers.proofs.Order.{this-first, neither-first, passed, is-refused, is-done}
-use Rattle.capture.specs.Format.{longestCapture, size, begins, frameBefore, trailerPlace, count, captureFault, framesTo, frames}
+use Rattle.capture.specs.Format.{longestCapture, size, begins, frameBefore, trailerBegins, count, captureFault, framesTo, frames}
 use Rattle.capture.specs.Recorded.{records, placeBehind}
 use Rattle.capture.specs.Show.{noSuchFrame, showNumber, shownFrame, shownPlace, Shows}
 use Rattle.capture.proofs.Walk.{Walking, last-ends, goes-on, frame-length, frames-length, last-frame, front-frames, walk-length}
@@ -29,14 +29,14 @@ pub record Front (c : List ℕ) (n end : ℕ) : Type 0 where
 module _ (c : List ℕ) where
   pub frames-counted : length (frames c) ≡ count c
   unfolding frames
-  frames-counted = frames-length c (count c) (trailerPlace c)
+  frames-counted = frames-length c (count c) (trailerBegins c)
 
   -- all records do from the trailer, and have all frames
-  pub all-front : captureFault c ≡ none → Front c (count c) (trailerPlace c)
+  pub all-front : captureFault c ≡ none → Front c (count c) (trailerBegins c)
   unfolding frames
   all-front e =
-      let counted = frames-length c (count c) (trailerPlace c) in
-      record { walking = sound c e .walking; same = sym (take-all (count c) (framesTo c (count c) (trailerPlace c)) (omega arith)) }
+      let counted = frames-length c (count c) (trailerBegins c) in
+      record { walking = sound c e .walking; same = sym (take-all (count c) (framesTo c (count c) (trailerBegins c)) (omega arith)) }
 
   -- and one less does from where the last one begins
   pub front-before : (n : ℕ) {end : ℕ} → Front c (suc n) end → Front c n (begins c end)

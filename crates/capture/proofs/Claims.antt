@@ -7,7 +7,7 @@ use Prim.Native.Nat.{ℕ, _-_}
 use native.Mathlib.Omega.{arith}
 use borrow.Author.Tests.{eq-eqb}
 use lib.ListN.{length, take-append-drop}
-use Rattle.capture.specs.Format.{trailerPlace, count, wellFormed, frames}
+use Rattle.capture.specs.Format.{trailerBegins, count, wellFormed, frames}
 use Rattle.capture.specs.Recorded.{records, placeBehind, recorded}
 use Rattle.capture.specs.Claims.{OfRecording, OfCapture}
 use Rattle.capture.proofs.Walk.{Walking, right-length, sound, begins-behind}
@@ -20,30 +20,31 @@ unfolding wellFormed frames
 recording-claimed fs =
     record {
       wellFormed = λ r short.
-          let reads = recorded-reads fs r in
+          let reads = recorded-reads fs in
+          let reached = reads .reached r in
           let long = recorded-length fs in
-          let walking : Walking (recorded fs) (length fs) (length (records fs)) = record { inside = omega arith; reached = reads .reached } in
+          let walking : Walking (recorded fs) (length fs) (length (records fs)) = record { inside = omega arith; reached = reached } in
           let begin = begins-behind _ _ _ walking ∙ ap (placeBehind (length fs - 1)) (reads .same) in
           rw (
             right-length (recorded fs) (omega arith) short,
             recorded-place fs,
             recorded-count fs,
-            reads .reached,
+            reached,
             eq-eqb _ _ (recorded-last fs ∙ sym begin),
           );
-      sameFrames = λ r short. rw (recorded-place fs, recorded-count fs) (recorded-reads fs r .same);
+      sameFrames = rw (recorded-place fs, recorded-count fs) (recorded-reads fs .same);
     }
 
 pub capture-claimed : (c : List ℕ) → OfCapture c
 unfolding frames recorded
 capture-claimed c =
     record {
-      recordableFrames = λ fine. walk-recordable c (count c) (trailerPlace c) (sound c fine .walking);
+      recordableFrames = λ fine. walk-recordable c (count c) (trailerBegins c) (sound c fine .walking);
       sameBytes = λ fine bytes.
           let s = sound c fine in
-          let last = s .last ∙ begins-behind c (count c) (trailerPlace c) (s .walking) in
+          let last = s .last ∙ begins-behind c (count c) (trailerBegins c) (s .walking) in
           rw (frames-counted c, ← last)
-          (ap₂ (λ (x y : List ℕ). x ++ y) (walk-bytes c bytes (count c) (trailerPlace c) (s .walking)) (trailer-bytes c bytes (s .long))
-          ∙ take-append-drop (trailerPlace c) c);
+          (ap₂ (λ (x y : List ℕ). x ++ y) (walk-bytes c bytes (count c) (trailerBegins c) (s .walking)) (trailer-bytes c bytes (s .long))
+          ∙ take-append-drop (trailerBegins c) c);
       isPart = λ frame. shown-part c frame .same;
     }

@@ -12,7 +12,7 @@ use lib.ListN.{length, getD, take, drop, length-append, drop-of-length-le}
 use lib.Seq.{take-append-seam, drop-append-seam, getD-append-seam, getD-append-add, drop-cons, drop-drop, take-add, append-snoc}
 use Rattle.numbers.proofs.Tests.{both}
 use Rattle.registers.specs.Register.{highFirst}
-use Rattle.capture.specs.Format.{longestFrame, twoAt, size, begins, recordEnds, frameBefore, trailerPlace, count, lastPlace}
+use Rattle.capture.specs.Format.{longestFrame, twoAt, size, begins, recordEnds, frameBefore, trailerBegins, count, lastPlace}
 use Rattle.capture.specs.Format.{reaches, framesTo}
 use Rattle.capture.specs.Recorded.{fourHighFirst, recordable, records, placeBehind, recorded}
 use Rattle.capture.proofs.Walk.{Ends, Walking, last-ends, goes-on, frame-length, records-append}
@@ -65,26 +65,20 @@ module _ (p f s : List ℕ) where
   ends-read some few =
       rw (size-read, le-leb 1 (length f) some, le-leb (length f) longestFrame few, le-leb (length f + 2) behind (omega arith))
 
--- the records at the front of a capture lead back to place 0 and have their frames
+-- the records at the front of a capture have their frames, and lead back to place 0 where each can be held
 pub record Reads (c : List ℕ) (fs : List (List ℕ)) : Type 0 where
-  pub reached : reaches c (length fs) (length (records fs)) ≡ true
+  pub reached : recordable fs ≡ true → reaches c (length fs) (length (records fs)) ≡ true
   pub same : framesTo c (length fs) (length (records fs)) ≡ fs
 
 -- from the last one on, whatever stands behind
-reads-back : (fs : List (List ℕ)) → recordable fs ≡ true → (s : List ℕ) → Reads (records fs ++ s) fs
+reads-back : (fs : List (List ℕ)) (s : List ℕ) → Reads (records fs ++ s) fs
 reads-back =
-    from-last (λ (fs : List (List ℕ)). recordable fs ≡ true → (s : List ℕ) → Reads (records fs ++ s) fs)
-    (λ r s. record { reached = refl; same = refl })
-    one-more
+    from-last (λ (fs : List (List ℕ)). (s : List ℕ) → Reads (records fs ++ s) fs) (λ s. record { reached = λ r. refl; same = refl }) one-more
   where
-    one-more : (fs : List (List ℕ)) (f : List ℕ) → (recordable fs ≡ true → (s : List ℕ) → Reads (records fs ++ s) fs)
-        → recordable (fs ++ (f ∷ [])) ≡ true → (s : List ℕ) → Reads (records (fs ++ (f ∷ [])) ++ s) (fs ++ (f ∷ []))
-    one-more fs f before r s =
-        let p = both (recordable fs) (recordable (f ∷ [])) (sym (recordable-append fs (f ∷ [])) ∙ r) in
-        let q = both (leb 1 (length f) && leb (length f) longestFrame) true (p .1) .0 in
-        let t = both (leb 1 (length f)) (leb (length f) longestFrame) q in
-        let ended = ends-read (records fs) f s (leb-true _ _ (t .0)) (leb-true _ _ (t .1)) in
-        let reads = before (p .0) (f ++ (highFirst (length f) ++ s)) in
+    one-more : (fs : List (List ℕ)) (f : List ℕ) → ((s : List ℕ) → Reads (records fs ++ s) fs) → (s : List ℕ)
+        → Reads (records (fs ++ (f ∷ [])) ++ s) (fs ++ (f ∷ []))
+    one-more fs f before s =
+        let reads = before (f ++ (highFirst (length f) ++ s)) in
         let whole : records (fs ++ (f ∷ [])) ++ s ≡ around (records fs) f s = simp (records-append, append-assoc) in
         let many : length (fs ++ (f ∷ [])) ≡ suc (length fs) = simp length-append (omega arith) in
         let long : length (records (fs ++ (f ∷ []))) ≡ behind (records fs) f s =
@@ -92,22 +86,27 @@ reads-back =
         let begin = begins-read (records fs) f s in
         rw whole
         (record {
-          reached = rw (many, long, ended, begin) (reads .reached);
+          reached = λ r.
+              let p = both (recordable fs) (recordable (f ∷ [])) (sym (recordable-append fs (f ∷ [])) ∙ r) in
+              let q = both (leb 1 (length f) && leb (length f) longestFrame) true (p .1) .0 in
+              let t = both (leb 1 (length f)) (leb (length f) longestFrame) q in
+              let ended = ends-read (records fs) f s (leb-true _ _ (t .0)) (leb-true _ _ (t .1)) in
+              rw (many, long, ended, begin) (reads .reached (p .0));
           same = rw (many, long, begin, frame-read (records fs) f s) (ap (λ (l : List (List ℕ)). l ++ (f ∷ [])) (reads .same));
         })
 
 -- so are all, and what the trailer behind them says
 module _ (fs : List (List ℕ)) where
-  pub recorded-reads : recordable fs ≡ true → Reads (recorded fs) fs
+  pub recorded-reads : Reads (recorded fs) fs
   unfolding recorded
-  recorded-reads r = reads-back fs r _
+  recorded-reads = reads-back fs _
 
   pub recorded-length : length (recorded fs) ≡ length (records fs) + 6
   unfolding recorded
   recorded-length = length-append (records fs) _
 
-  pub recorded-place : trailerPlace (recorded fs) ≡ length (records fs)
-  unfolding trailerPlace
+  pub recorded-place : trailerBegins (recorded fs) ≡ length (records fs)
+  unfolding trailerBegins
   recorded-place = rw recorded-length (omega arith)
 
   pub recorded-count : count (recorded fs) ≡ length fs
@@ -167,10 +166,10 @@ module _ (c : List ℕ) (bytes : (i : ℕ) → getD c i 0 < 256) where
       ∙ sym (take-add (begins c end) (size c end + 2) c)
       ∙ ap (λ (k : ℕ). take k c) whole
 
-  pub trailer-bytes : 6 ≤ length c → highFirst (count c) ++ fourHighFirst (lastPlace c) ≡ drop (trailerPlace c) c
-  unfolding count lastPlace trailerPlace
+  pub trailer-bytes : 6 ≤ length c → highFirst (count c) ++ fourHighFirst (lastPlace c) ≡ drop (trailerBegins c) c
+  unfolding count lastPlace trailerBegins
   trailer-bytes h =
-      let place = trailerPlace c in
+      let place = trailerBegins c in
       let high = twoAt c (place + 2) in
       let low = twoAt c (place + 2 + 2) in
       let above = bytes (place + 2 + 2) in

@@ -13,8 +13,8 @@ use Rattle.capture.proofs as capture
 pub begins : OneOutcome capture.begins.ended capture.begins.Reads.Asked capture.begins.Reads.Post
 begins = record { asksNothing = λ κs a. tt; single = λ κs a o u p q. single p q & refl }
 
-pub trailer-place : OneOutcome capture.trailer_place.ended capture.trailer_place.Reads.Asked capture.trailer_place.Reads.Post
-trailer-place = record { asksNothing = λ κs a. tt; single = λ κs a o u p q. single p q & refl }
+pub trailer-begins : OneOutcome capture.trailer_begins.ended capture.trailer_begins.Reads.Asked capture.trailer_begins.Reads.Post
+trailer-begins = record { asksNothing = λ κs a. tt; single = λ κs a o u p q. single p q & refl }
 
 pub count : OneOutcome capture.count.ended capture.count.Reads.Asked capture.count.Reads.Post
 count = record { asksNothing = λ κs a. tt; single = λ κs a o u p q. single p q & refl }

@@ -15,7 +15,7 @@ use Rattle.numbers.proofs.Tests.{both}
 use Rattle.numbers.proofs.Order.{last-met, passed}
 use Rattle.registers.specs.Register.{highFirst}
 use Rattle.capture.specs.Format.{badCapture, longestCapture, longestFrame, sizeBytes, size, begins, recordEnds, frameBefore}
-use Rattle.capture.specs.Format.{trailerLength, trailerPlace, count, lastPlace, reaches, wellFormed, captureFault, framesTo}
+use Rattle.capture.specs.Format.{trailerLength, trailerBegins, count, lastPlace, reaches, wellFormed, captureFault, framesTo}
 use Rattle.capture.specs.Recorded.{records, placeBehind}
 
 -- ---- one record
@@ -142,16 +142,16 @@ module _ (c : List ℕ) where
   pub record Sound : Type 0 where
     pub long : 6 ≤ length c
     pub short : length c ≤ longestCapture
-    pub last : lastPlace c ≡ begins c (trailerPlace c)
-    pub walking : Walking c (count c) (trailerPlace c)
+    pub last : lastPlace c ≡ begins c (trailerBegins c)
+    pub walking : Walking c (count c) (trailerBegins c)
 
   pub sound : captureFault c ≡ none → Sound
-  unfolding captureFault wellFormed trailerPlace
+  unfolding captureFault wellFormed trailerBegins
   sound e =
       let lengths = leb trailerLength (length c) && leb (length c) longestCapture in
       let l = passed lengths badCapture _ (omega arith) e in
       let w = passed (wellFormed c) badCapture _ (omega arith) (l .1) .0 in
-      let f = both (eqb (lastPlace c) (begins c (trailerPlace c))) (reaches c (count c) (trailerPlace c)) w in
+      let f = both (eqb (lastPlace c) (begins c (trailerBegins c))) (reaches c (count c) (trailerBegins c)) w in
       let lengths-held = both (leb trailerLength (length c)) (leb (length c) longestCapture) (l .0) in
       record {
         long = leb-true _ _ (lengths-held .0);

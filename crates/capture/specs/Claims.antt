@@ -10,12 +10,12 @@ use Rattle.capture.specs.Format.{longestCapture, captureFault, frames}
 use Rattle.capture.specs.Recorded.{recordable, recorded}
 use Rattle.capture.specs.Show.{shownFrame, shownPlace}
 
--- of frames that have 1 to 256 bytes each, and whose capture is not too long
+-- of frames: what is recorded of them is well formed where each has 1 to 256 bytes and it has at most 65,536, and its frames are those
 pub record OfRecording (fs : List (List ℕ)) : Type 0 where
   pub wellFormed : recordable fs ≡ true → length (recorded fs) ≤ longestCapture → captureFault (recorded fs) ≡ none
-  pub sameFrames : recordable fs ≡ true → length (recorded fs) ≤ longestCapture → frames (recorded fs) ≡ fs
+  pub sameFrames : frames (recorded fs) ≡ fs
 
--- of a capture, whose elements are bytes
+-- of a capture; that it is what was recorded is said where its elements are bytes
 pub record OfCapture (c : List ℕ) : Type 0 where
   pub recordableFrames : captureFault c ≡ none → recordable (frames c) ≡ true
   pub sameBytes : captureFault c ≡ none → ((i : ℕ) → getD c i 0 < 256) → recorded (frames c) ≡ c

@@ -52,14 +52,14 @@ frameBefore c end = take (size c end) (drop (begins c end) c)
 abbrev pub trailerLength : ℕ
 trailerLength = 6
 
-unfoldable pub trailerPlace : List ℕ → ℕ
-trailerPlace c = length c - trailerLength
+unfoldable pub trailerBegins : List ℕ → ℕ
+trailerBegins c = length c - trailerLength
 
 unfoldable pub count : List ℕ → ℕ
-count c = twoAt c (trailerPlace c)
+count c = twoAt c (trailerBegins c)
 
 unfoldable pub lastPlace : List ℕ → ℕ
-lastPlace c = fourAt c (trailerPlace c + 2)
+lastPlace c = fourAt c (trailerBegins c + 2)
 
 -- ---- the walk back
 
@@ -68,10 +68,10 @@ abbrev pub reaches : List ℕ → ℕ → ℕ → Bool
 reaches c zero end = eqb end 0
 reaches c (suc n) end = recordEnds c end && reaches c n (begins c end)
 
--- the last record begins at the trailer's place, and the walk from the trailer reaches place 0 after exactly as many records as it
--- says. In six bytes with none the place is 0, which is where a record that ends at place 0 would begin.
+-- the last record begins at the place that the trailer says, and the walk from the trailer reaches place 0 after exactly as many
+-- records as it says. In six bytes with none the place is 0, which is where a record that ends at place 0 would begin.
 unfoldable pub wellFormed : List ℕ → Bool
-wellFormed c = eqb (lastPlace c) (begins c (trailerPlace c)) && reaches c (count c) (trailerPlace c)
+wellFormed c = eqb (lastPlace c) (begins c (trailerBegins c)) && reaches c (count c) (trailerBegins c)
 
 -- the fault of a capture: its length, or that it is not well formed
 unfoldable pub captureFault : List ℕ → ℕ
@@ -89,4 +89,4 @@ framesTo c zero end = []
 framesTo c (suc n) end = framesTo c n (begins c end) ++ (frameBefore c end ∷ [])
 
 unfoldable pub frames : List ℕ → List (List ℕ)
-frames c = framesTo c (count c) (trailerPlace c)
+frames c = framesTo c (count c) (trailerBegins c)

@@ -11,7 +11,7 @@ use Rattle.capture.specs.Format.{longestFrame}
 abbrev pub fourHighFirst : ℕ → List ℕ
 fourHighFirst n = highFirst (n / 0x10000) ++ highFirst (n % 0x10000)
 
--- a frame that a record can hold: 1 to 256 bytes
+-- frames that records can hold: each has 1 to 256 bytes
 abbrev pub recordable : List (List ℕ) → Bool
 recordable [] = true
 recordable (f ∷ fs) = leb 1 (length f) && leb (length f) longestFrame && recordable fs

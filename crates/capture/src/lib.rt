@@ -1,10 +1,10 @@
-// A capture of RTU frames: records, found from the back, and a trailer that points to the last of them. Every function takes bytes of
-// any length: past the end of a capture a byte counts as 0, and a difference below zero is 0.
+// A capture of RTU frames: records, found from the back, and a trailer that points to the last of them. Every public
+// function takes bytes of any length: past the end of a capture a byte counts as 0, and a difference below zero is 0.
 ghost use mathlib.Core.Path.{_≡_};
 ghost use Prim.Native.Nat.{_+_, _-_, _≤_, _<_};
 ghost use lib.ListN.{length, take};
 ghost use Rattle.numbers.specs.Numbers.{none};
-ghost use Rattle.capture.specs.Format.{twoAt, size, begins, recordEnds, frameBefore, trailerPlace, count, lastPlace};
+ghost use Rattle.capture.specs.Format.{twoAt, size, begins, recordEnds, frameBefore, trailerBegins, count, lastPlace};
 ghost use Rattle.capture.specs.Format.{reaches, captureFault, frames};
 ghost use Rattle.capture.specs.Recorded.{placeBehind};
 ghost use Rattle.capture.specs.Show.{shownFrame, Shows};
@@ -98,8 +98,8 @@ pub fn frame_before(capture: &[u8], end: usize) -> &[u8]
 
 // ---- the trailer: two bytes with the number of records, four with the place where the last one begins
 
-pub fn trailer_place(capture: &[u8]) -> usize
-    ensures { λ r. ⌜ r ≡ trailerPlace (now (capture .entry)) ⌝ }
+pub fn trailer_begins(capture: &[u8]) -> usize
+    ensures { λ r. ⌜ r ≡ trailerBegins (now (capture .entry)) ⌝ }
 {
     less(capture.len(), TRAILER_LENGTH)
 }
@@ -107,13 +107,13 @@ pub fn trailer_place(capture: &[u8]) -> usize
 pub fn count(capture: &[u8]) -> usize
     ensures { λ r. ⌜ r ≡ count (now (capture .entry)) ⌝ }
 {
-    two_at(capture, trailer_place(capture))
+    two_at(capture, trailer_begins(capture))
 }
 
 fn last_place(capture: &[u8]) -> usize
     ensures { λ r. ⌜ r ≡ lastPlace (now (capture .entry)) ⌝ }
 {
-    let place = trailer_place(capture);
+    let place = trailer_begins(capture);
     two_at(capture, place + 2) * 0x10000 + two_at(capture, place + 4)
 }
 
@@ -142,7 +142,7 @@ pub fn fault(capture: &[u8]) -> u8
     if capture.len() < TRAILER_LENGTH || LONGEST_CAPTURE < capture.len() {
         return BAD_CAPTURE;
     }
-    let place = trailer_place(capture);
+    let place = trailer_begins(capture);
     if last_place(capture) == begins(capture, place) && reaches(capture, count(capture), place) {
         NONE
     } else {
@@ -158,7 +158,7 @@ fn end_of(capture: &[u8], frame: usize) -> usize
     ensures { λ r. ⌜ r ≡ placeBehind frame (frames (now (capture .entry))) ⌝ }
 {
     let mut left = count(capture);
-    let mut end = trailer_place(capture);
+    let mut end = trailer_begins(capture);
     while frame < left {
         end = begins(capture, end);
         left -= 1;

@@ -17,7 +17,7 @@ use Rattle.writes.specs.declared.Given.{Given}
 use Rattle.writes.specs.declared.Given.the-variants.{Value, Nothing}
 use Rattle.writes.specs.Writes.{later, over}
 use Rattle.writes.proofs.Stored.{later-none, later-assoc}
-use Rattle.capture.specs.Format.{begins, frameBefore, trailerPlace, count, framesTo, frames}
+use Rattle.capture.specs.Format.{begins, frameBefore, trailerBegins, count, framesTo, frames}
 use Rattle.playback.specs.Settling.{wrote, lastWrite, known, InStep, only, below, Settles, LastWrites}
 use Rattle.playback.proofs.Frames.{last-one-more}
 
@@ -174,7 +174,7 @@ module _ (address : ℕ) (c : List ℕ) (start : List ℤ) where
     pub others : (i : ℕ) → i < items → getD settled i false ≡ false → entry t i ≡ entry start i
 
   pub walk-starts : (settled : List Bool) {left end : ℕ} → InStep start settled → ((i : ℕ) → i < items → getD settled i false ≡ false)
-      → left ≡ count c → end ≡ trailerPlace c → Walked start settled left end
+      → left ≡ count c → end ≡ trailerBegins c → Walked start settled left end
   unfolding frames
   walk-starts settled {left} {end} s u l e =
       record {

@@ -44,7 +44,7 @@ fn settle_item(table: &mut [i32], settled: &mut [bool], body: &[u8], i: usize)
     settled[i] = true;
 }
 
-// So is each item.
+// Each item is settled so.
 fn settle_each(table: &mut [i32], settled: &mut [bool], body: &[u8])
     requires { ⌜ InStep (now table) (now settled) ⌝ }
     ensures { λ _. ⌜ Settles (given (writesOf (now (body .entry))))
@@ -57,7 +57,7 @@ fn settle_each(table: &mut [i32], settled: &mut [bool], body: &[u8])
     }
 }
 
-// What a frame writes, where it is one that is accepted.
+// Items are settled by what a frame writes. One that is refused, or is no write that the rules accept, settles none.
 fn settle(table: &mut [i32], settled: &mut [bool], address: u8, frame: &[u8])
     requires { ⌜ InStep (now table) (now settled) ⌝ }
     ensures { λ _. ⌜ Settles (wrote address (now (frame .entry)))
@@ -79,7 +79,7 @@ fn settle_all(table: &mut [i32], address: u8, capture: &[u8])
 {
     let mut settled = [false; items::ITEMS];
     let mut left = capture::count(capture);
-    let mut end = capture::trailer_place(capture);
+    let mut end = capture::trailer_begins(capture);
     while 0 < left {
         settle(
             table,

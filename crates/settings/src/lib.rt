@@ -1,5 +1,5 @@
-// What a message sets: whether it is a write that the rules accept, and what it gives an item. What is claimed of it is said of the
-// rules for a message, which stand in `modbus`.
+// What a message sets: whether it is a write that the rules accept, and what it gives an item. The claims of specs/Settings.antt are
+// about the rules, which stand in `modbus`, and not about this code.
 ghost use mathlib.Core.Path.{_≡_};
 ghost use lib.ListN.{drop};
 ghost use Rattle.writes.specs.Writes.{given};

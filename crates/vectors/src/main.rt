@@ -140,7 +140,7 @@ fn modbus_documents() {
     pdu(b"\x10\x00\x10\x00\x03\x06\xFF\x6A\x03\xE8\x00\x64");
 }
 
-// Document 02, 3/14: a capture with no record; two writes to the offset, and one to a register that the map does not have, played back
+// From the words of document 02, 3/14: a capture with no record; two writes to the offset, and one to a register that the map does not have, played back
 // and shown; and a trailer that counts one record too many.
 const THREE_WRITES: [u8; 36] =
     *b"\x01\x06\x00\x10\x01\x02\x08\x5E\x00\x08\x01\x06\x00\x10\xFF\x6A\x49\xD0\x00\x08\x01\x06\x00\xF4\x00\x32\x49\xED\x00\x08\x00\x03\x00\x00\x00\x14";

@@ -171,7 +171,7 @@ fn is_allowed(place: usize, value: i32) -> bool
 }
 
 // The place of the item whose register is so many behind the start; past the list where no item has it.
-fn place_behind(start: u16, i: usize) -> usize
+fn item_behind(start: u16, i: usize) -> usize
     requires { ⌜ i < 0x8000000000000000 ⌝ }
     ensures { λ r. ⌜ r ≡ placeOf (start + i) ⌝ }
 {
@@ -191,7 +191,7 @@ pub fn all_allowed(start: u16, bytes: &[u8]) -> bool
     let quantity = bytes.len() / 2;
     let mut i = 0;
     while i < quantity {
-        if !is_allowed(place_behind(start, i), value_behind(bytes, i)) {
+        if !is_allowed(item_behind(start, i), value_behind(bytes, i)) {
             return false;
         }
         i += 1;
@@ -207,7 +207,7 @@ pub fn given_to(start: u16, bytes: &[u8], item: usize) -> Given
     let mut left = bytes.len() / 2;
     while 0 < left {
         left -= 1;
-        if place_behind(start, left) == item {
+        if item_behind(start, left) == item {
             return Given::Value(value_behind(bytes, left));
         }
     }

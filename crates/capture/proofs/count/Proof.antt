@@ -1,20 +1,20 @@
 -- `capture::count` meets its contract: it is the definition. Assumes nothing.
 use mathlib.Core.Path.{ap, _∙_}
-use Rattle.capture.specs.Format.{twoAt, trailerPlace, count}
+use Rattle.capture.specs.Format.{twoAt, trailerBegins, count}
 use borrow.Author.Needs.{needs}
 use Rattle.capture.proofs.count.Statement.{statement}
 use Rattle.capture.proofs.count.Tie as tie
 
-trailer-place-requires : tie.Need-trailer-place-requires
-trailer-place-requires c κs = search needs
+trailer-begins-requires : tie.Need-trailer-begins-requires
+trailer-begins-requires c κs = search needs
 
 two-at-requires : tie.Need-two-at-requires
-unfolding trailerPlace
+unfolding trailerBegins
 two-at-requires c κs = search needs
 
 returns : tie.Need-returns
 unfolding count
-returns c = c .two-at .ensures ∙ ap (twoAt (c .before .before .before .args .capture .now)) (c .before .trailer-place .ensures)
+returns c = c .two-at .ensures ∙ ap (twoAt (c .before .before .before .args .capture .now)) (c .before .trailer-begins .ensures)
 
 pub count-spec : {M : Type 1} → statement M
-count-spec = tie.close (tie.spec trailer-place-requires two-at-requires returns)
+count-spec = tie.close (tie.spec trailer-begins-requires two-at-requires returns)

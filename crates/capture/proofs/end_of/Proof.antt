@@ -16,13 +16,13 @@ abbrev μ-loop : tie.MeasureT-loop
 count-requires : tie.Need-count-requires Inv-loop μ-loop
 count-requires c κs = tt
 
-trailer-place-requires : tie.Need-trailer-place-requires Inv-loop μ-loop
-trailer-place-requires c κs = tt
+trailer-begins-requires : tie.Need-trailer-begins-requires Inv-loop μ-loop
+trailer-begins-requires c κs = tt
 
 loop-holds : tie.Need-loop-holds Inv-loop μ-loop
 loop-holds c =
     let s = c .before .before .before in
-    rw (c .before .count .ensures, c .trailer-place .ensures) (s .pre .1, all-front (s .args .capture .now) (s .pre .0))
+    rw (c .before .count .ensures, c .trailer-begins .ensures) (s .pre .1, all-front (s .args .capture .now) (s .pre .0))
 
 begins-requires : tie.Need-begins-requires Inv-loop μ-loop
 begins-requires c κs = tt
@@ -53,7 +53,7 @@ end-of-spec =
     Inv-loop
     μ-loop
     count-requires
-    trailer-place-requires
+    trailer-begins-requires
     loop-holds
     begins-requires
     sub-left

@@ -19,8 +19,8 @@ returns c =
     (λ w. sym (too-long capture (omega (arith, ltb-false)) (omega (arith, ltb-true))))
     (c .if1 .came)
 
-trailer-place-requires : tie.Need-trailer-place-requires
-trailer-place-requires c κs = search needs
+trailer-begins-requires : tie.Need-trailer-begins-requires
+trailer-begins-requires c κs = search needs
 
 last-place-requires : tie.Need-last-place-requires
 last-place-requires c κs = search needs
@@ -37,12 +37,12 @@ reaches-requires c κs = search needs
 -- what the rules give of a capture whose length is right
 judged : (c : tie.After-begins) →
     let s = c .before .before .before .before .before .before .args .capture .now in
-    let place = c .before .before .trailer-place .result in
+    let place = c .before .before .trailer-begins .result in
     captureFault s ≡ unless (eqb (c .before .last-place .result) (c .begins .result) && reaches s (count s) place) badCapture
 unfolding wellFormed
 judged c =
     let capture = c .before .before .before .before .before .before .args .capture .now in
-    rw (c .begins .ensures, c .before .last-place .ensures, c .before .before .trailer-place .ensures)
+    rw (c .begins .ensures, c .before .last-place .ensures, c .before .before .trailer-begins .ensures)
     (right-length capture (omega (arith, ltb-false)) (omega (arith, ltb-false)))
 
 returns-2 : tie.Need-returns-2
@@ -66,7 +66,7 @@ fault-spec =
     tie.close
     (tie.spec
     returns
-    trailer-place-requires
+    trailer-begins-requires
     last-place-requires
     begins-requires
     count-requires

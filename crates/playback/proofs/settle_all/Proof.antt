@@ -18,8 +18,8 @@ abbrev μ-loop : tie.MeasureT-loop
 count-requires : tie.Need-count-requires Inv-loop μ-loop
 count-requires c κs = tt
 
-trailer-place-requires : tie.Need-trailer-place-requires Inv-loop μ-loop
-trailer-place-requires c κs = tt
+trailer-begins-requires : tie.Need-trailer-begins-requires Inv-loop μ-loop
+trailer-begins-requires c κs = tt
 
 loop-holds : tie.Need-loop-holds Inv-loop μ-loop
 loop-holds c =
@@ -28,7 +28,7 @@ loop-holds c =
     walk-starts (s .args .address) (s .args .capture .now) (s .args .table .now) none (record { entries = s .pre; marks = refl })
     (λ i h. getD-replicate items i false false h)
     (c .before .count .ensures)
-    (c .trailer-place .ensures)
+    (c .trailer-begins .ensures)
 
 slice-aggregate-settle : tie.Need-slice-aggregate-settle Inv-loop μ-loop
 slice-aggregate-settle c = sym (c .before .before .before .loop .inv .inStep .marks)
@@ -73,7 +73,7 @@ settle-all-spec =
     Inv-loop
     μ-loop
     count-requires
-    trailer-place-requires
+    trailer-begins-requires
     loop-holds
     slice-aggregate-settle
     frame-before-requires

@@ -20,8 +20,8 @@ abbrev μ-loop : tie.MeasureT-loop
 loop-holds : tie.Need-loop-holds Inv-loop μ-loop
 loop-holds c = let a = c .before .args in (omega arith, held-to-none (a .start) (a .bytes .now) allowed)
 
-place-behind-requires : tie.Need-place-behind-requires Inv-loop μ-loop
-place-behind-requires c κs = omega arith
+item-behind-requires : tie.Need-item-behind-requires Inv-loop μ-loop
+item-behind-requires c κs = omega arith
 
 value-behind-requires : tie.Need-value-behind-requires Inv-loop μ-loop
 value-behind-requires c κs = omega arith
@@ -38,7 +38,7 @@ tested c =
     let v = c .before .value-behind in
     c .is-allowed .ensures
     ∙ ap₂ (λ (place : ℕ) (value : ℤ). allowed (record { place = place; value = value }))
-    (c .before .before .place-behind .ensures)
+    (c .before .before .item-behind .ensures)
     (same (v .result) (v .ok) ∙ v .ensures)
 
 returns : tie.Need-returns Inv-loop μ-loop
@@ -72,7 +72,7 @@ all-allowed-spec =
     Inv-loop
     μ-loop
     loop-holds
-    place-behind-requires
+    item-behind-requires
     value-behind-requires
     is-allowed-requires
     returns

@@ -22,8 +22,8 @@ loop-holds c = let a = c .before .args in (omega arith, gives-none (a .start) (a
 sub-left : tie.Need-sub-left Inv-loop μ-loop
 sub-left c = omega arith
 
-place-behind-requires : tie.Need-place-behind-requires Inv-loop μ-loop
-place-behind-requires c κs = omega arith
+item-behind-requires : tie.Need-item-behind-requires Inv-loop μ-loop
+item-behind-requires c κs = omega arith
 
 value-behind-requires : tie.Need-value-behind-requires Inv-loop μ-loop
 value-behind-requires c κs = omega arith
@@ -40,7 +40,7 @@ returns : tie.Need-returns Inv-loop μ-loop
 returns c =
     let l = c .before .before .before in
     let a = l .before .before .before .args in
-    let place = c .before .before .place-behind .ensures in
+    let place = c .before .before .item-behind .ensures in
     let value = c .value-behind in
     ap Value (same (value .result) (value .ok) ∙ value .ensures)
     ∙ sym (value-stays (a .start) (a .bytes .now) (a .item) (l .before .loop .left - 1) (omega arith)
@@ -53,7 +53,7 @@ loop-again : tie.Need-loop-again Inv-loop μ-loop
 loop-again c =
     let l = c .before .before in
     let a = l .before .before .before .args in
-    let place = c .before .place-behind .ensures in
+    let place = c .before .item-behind .ensures in
     (omega arith, gives-on (a .start) (a .bytes .now) (a .item) _ (behind l) (omega arith) (λ e. c .if1 .left (place ∙ e)))
 
 returns-2 : tie.Need-returns-2 Inv-loop μ-loop
@@ -71,7 +71,7 @@ given-to-spec =
     μ-loop
     loop-holds
     sub-left
-    place-behind-requires
+    item-behind-requires
     value-behind-requires
     returns
     loop-less

@@ -61,7 +61,7 @@ const GROUPS: &[(&str, Calls)] = &[
     ("captures of every size", captures::sizes),
     ("lengths in a capture's records", captures::lengths),
     ("trailers of captures", captures::trailers),
-    ("all of the smallest captures", captures::small),
+    ("small captures of small bytes", captures::small),
     ("captures with a byte wrong", captures::damaged),
     ("every frame of a capture shown", captures::shown),
     ("tables lent to a playback", captures::lent),
@@ -143,6 +143,6 @@ fn gives(compare: &mut Compare, mut call: Call, number: u32) -> Checked<Call> {
         return Ok(call);
     }
     Err(Failure::wrong(format!(
-        "number {number} comes first, {given} was given\n{before}"
+        "number {number} is due, {given} was given\n{before}"
     )))
 }

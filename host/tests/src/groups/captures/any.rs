@@ -1,4 +1,4 @@
-//! Captures of anything: all of the smallest, and many of others.
+//! Captures of anything: all small ones of small bytes, and many of others.
 
 use super::{any_frame, tried, Parts};
 use crate::compare::Compare;
