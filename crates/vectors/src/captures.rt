@@ -2,12 +2,17 @@
 use crate::show;
 use numbers::NONE;
 
-pub fn playback(address: u8, capture: &[u8]) {
-    show::text(b"playback");
-    show::byte(address);
+// The capture that a function is handed, up to what comes of it.
+fn handed(capture: &[u8]) {
     show::text(b":");
     show::bytes(capture);
     show::arrow();
+}
+
+pub fn playback(address: u8, capture: &[u8]) {
+    show::text(b"playback");
+    show::byte(address);
+    handed(capture);
     let mut table = [0i32; items::ITEMS];
     let number = playback::play(&mut table, address, capture);
     show::number(number);
@@ -21,9 +26,7 @@ pub fn playback(address: u8, capture: &[u8]) {
 pub fn frame(frame: u8, capture: &[u8]) {
     show::text(b"show");
     show::number(frame);
-    show::text(b":");
-    show::bytes(capture);
-    show::arrow();
+    handed(capture);
     let number = capture::look_up(capture, frame as u32).number;
     show::number(number);
     if number == NONE {

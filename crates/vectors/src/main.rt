@@ -140,16 +140,15 @@ fn modbus_documents() {
     pdu(b"\x10\x00\x10\x00\x03\x06\xFF\x6A\x03\xE8\x00\x64");
 }
 
-// From the words of document 02, 3/14: a capture with no record; two writes to the offset, and one to a register that the map does not have, played back
-// and shown; and a trailer that counts one record too many.
-const THREE_WRITES: [u8; 36] =
-    *b"\x01\x06\x00\x10\x01\x02\x08\x5E\x00\x08\x01\x06\x00\x10\xFF\x6A\x49\xD0\x00\x08\x01\x06\x00\xF4\x00\x32\x49\xED\x00\x08\x00\x03\x00\x00\x00\x14";
-
+// From the words of document 02, 3/14: a capture with no record; two writes to the offset, and one to a register that the map does not
+// have, played back and shown; and a trailer that counts one record too many.
 fn captures_of_document_02() {
+    let three_writes =
+        b"\x01\x06\x00\x10\x01\x02\x08\x5E\x00\x08\x01\x06\x00\x10\xFF\x6A\x49\xD0\x00\x08\x01\x06\x00\xF4\x00\x32\x49\xED\x00\x08\x00\x03\x00\x00\x00\x14";
     playback(1, b"\x00\x00\x00\x00\x00\x00");
-    playback(1, &THREE_WRITES);
-    frame(2, &THREE_WRITES);
-    frame(4, &THREE_WRITES);
+    playback(1, three_writes);
+    frame(2, three_writes);
+    frame(4, three_writes);
     playback(
         1,
         b"\x01\x06\x00\x10\x01\x02\x08\x5E\x00\x08\x00\x02\x00\x00\x00\x00",
