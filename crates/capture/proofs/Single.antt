@@ -3,7 +3,6 @@
 use mathlib.Core.Path.{_≡_, refl}
 use mathlib.Core.List.{List}
 use Prim.Native.Nat.{ℕ}
-use denote.Ref.{now}
 use Rattle.numbers.specs.Promise.{OneOutcome, OnePart}
 use Rattle.numbers.proofs.Single.{single, _&_}
 use Rattle.capture.specs.declared.Shown.{Shown}
@@ -30,8 +29,16 @@ shown-single p q =
 pub look-up : OneOutcome capture.look_up.ended capture.look_up.Reads.Asked capture.look_up.Reads.Post
 look-up = record { asksNothing = λ κs a. tt; single = λ κs a o u p q. shown-single p q & refl }
 
-pub frame-before : OnePart capture.frame_before.ended (λ κs r. now r) capture.frame_before.Reads.Asked capture.frame_before.Reads.Post
-frame-before = record { asksNothing = λ κs a. tt; single = λ κs a o u p q. (single p q, refl) }
+pub frame-before : OnePart capture.frame_before.ended (λ κs r. r) capture.frame_before.Reads.Asked capture.frame_before.Reads.Post
+frame-before =
+    record {
+      asksNothing = λ κs a. tt;
+      single = λ κs a o u p q. (single (p .bytes) (q .bytes), single (p .stands) (q .stands), refl);
+    }
 
-pub show : OnePart capture.show.ended (λ κs r. now r) capture.show.Reads.Asked capture.show.Reads.Post
-show = record { asksNothing = λ κs a. tt; single = λ κs a o u p q. (single p q, refl) }
+pub show : OnePart capture.show.ended (λ κs r. r) capture.show.Reads.Asked capture.show.Reads.Post
+show =
+    record {
+      asksNothing = λ κs a. tt;
+      single = λ κs a o u p q. (single (p .bytes) (q .bytes), single (p .stands) (q .stands), refl);
+    }

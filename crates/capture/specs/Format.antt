@@ -1,8 +1,10 @@
 -- A capture of RTU frames: records, and behind them a trailer. A record has the bytes of a frame and then two with their number, so it
 -- is found by the place that it ends in front of, and the walk goes back from end to end, beginning at the trailer.
 use Prim.Native.Nat.{ℕ, zero, suc, _+_, _-_, _*_}
+use mathlib.Core.Path.{_≡_}
 use mathlib.Core.Bool.{Bool, _&&_}
 use mathlib.Core.List.{List, [], _∷_, _++_}
+use denote.Ref.{RefT, now, ptr}
 use lib.Dec.{eqb, leb}
 use lib.ListN.{length, getD, take, drop}
 use Rattle.numbers.specs.Numbers.{unless, firstMet}
@@ -46,6 +48,11 @@ recordEnds c end = leb 1 (size c end) && leb (size c end) longestFrame && leb (s
 -- its frame
 unfoldable pub frameBefore : List ℕ → ℕ → List ℕ
 frameBefore c end = take (size c end) (drop (begins c end) c)
+
+-- the promise of a function that gives back a part of the lent capture: these bytes, which stand in it from this place on
+pub record PartOf (capture : RefT (List ℕ)) (place : ℕ) (part : List ℕ) (r : RefT (List ℕ)) : Type 0 where
+  pub bytes : now r ≡ part
+  pub stands : ptr r ≡ (ptr capture .0, place + ptr capture .1)
 
 -- ---- the trailer: two bytes with the number of records, four with the place where the last one begins
 

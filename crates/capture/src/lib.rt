@@ -4,10 +4,10 @@ ghost use mathlib.Core.Path.{_≡_};
 ghost use Prim.Native.Nat.{_+_, _-_, _≤_, _<_};
 ghost use lib.ListN.{length, take};
 ghost use Rattle.numbers.specs.Numbers.{none};
-ghost use Rattle.capture.specs.Format.{twoAt, size, begins, recordEnds, frameBefore, trailerBegins, count, lastPlace};
+ghost use Rattle.capture.specs.Format.{twoAt, size, begins, recordEnds, frameBefore, PartOf, trailerBegins, count, lastPlace};
 ghost use Rattle.capture.specs.Format.{reaches, captureFault, frames};
 ghost use Rattle.capture.specs.Recorded.{placeBehind};
-ghost use Rattle.capture.specs.Show.{shownFrame, Shows};
+ghost use Rattle.capture.specs.Show.{shownFrame, shownPlace, Shows};
 use numbers::NONE;
 
 // Numbers given back.
@@ -34,7 +34,7 @@ pub struct Shown {
 // ---- numbers
 
 // The difference, 0 where it would be below zero.
-fn less(a: usize, b: usize) -> usize
+fn difference(a: usize, b: usize) -> usize
     ensures { λ r. ⌜ r ≡ a - b ⌝ }
 {
     if a < b { 0 } else { a - b }
@@ -57,14 +57,14 @@ fn two_at(capture: &[u8], i: usize) -> usize
 fn size(capture: &[u8], end: usize) -> usize
     ensures { λ r. ⌜ r ≡ size (now (capture .entry)) end ⌝ }
 {
-    two_at(capture, less(end, SIZE_BYTES))
+    two_at(capture, difference(end, SIZE_BYTES))
 }
 
 // Where that record begins.
 pub fn begins(capture: &[u8], end: usize) -> usize
     ensures { λ r. ⌜ r ≡ begins (now (capture .entry)) end ⌝ }
 {
-    less(end, size(capture, end) + SIZE_BYTES)
+    difference(end, size(capture, end) + SIZE_BYTES)
 }
 
 // Whether a record ends there.
@@ -86,9 +86,10 @@ fn within(capture: &[u8], place: usize) -> usize
     }
 }
 
-// The frame of the record that ends in front of a place.
+// The frame of the record that ends in front of a place: it begins where the record does, or where the capture ends before that.
 pub fn frame_before(capture: &[u8], end: usize) -> &[u8]
-    ensures { λ r. ⌜ now r ≡ frameBefore (now (capture .entry)) end ⌝ }
+    ensures { λ r. ⌜ PartOf (capture .entry) (length (take (begins (now (capture .entry)) end) (now (capture .entry))))
+        (frameBefore (now (capture .entry)) end) r ⌝ }
 {
     let begin = begins(capture, end);
     let from = within(capture, begin);
@@ -101,7 +102,7 @@ pub fn frame_before(capture: &[u8], end: usize) -> &[u8]
 pub fn trailer_begins(capture: &[u8]) -> usize
     ensures { λ r. ⌜ r ≡ trailerBegins (now (capture .entry)) ⌝ }
 {
-    less(capture.len(), TRAILER_LENGTH)
+    difference(capture.len(), TRAILER_LENGTH)
 }
 
 pub fn count(capture: &[u8]) -> usize
@@ -195,7 +196,8 @@ pub fn look_up(capture: &[u8], frame: u32) -> Shown
 
 // The frame itself, as a part of the capture, empty where it is refused.
 pub fn show(capture: &[u8], frame: u32) -> &[u8]
-    ensures { λ r. ⌜ now r ≡ shownFrame (now (capture .entry)) frame ⌝ }
+    ensures { λ r. ⌜ PartOf (capture .entry) (shownPlace (now (capture .entry)) frame)
+        (shownFrame (now (capture .entry)) frame) r ⌝ }
 {
     let shown = look_up(capture, frame);
     let from = shown.place;

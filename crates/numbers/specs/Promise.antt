@@ -5,6 +5,7 @@ use Prim.Native.Nat.{ℕ}
 use mathlib.Core.Path.{_≡_}
 use mathlib.Core.List.{List}
 use contract.Lifetimes.{Lfts}
+use denote.Ref.{RefT, now, ptr}
 use denote.Triple.Entry.{Args, Res}
 use denote.Triple.Clauses.{Ended, AtExit, Lasts, atExit}
 
@@ -23,14 +24,14 @@ pub record OneOutcome (T : Ended) (Asked : Asks T) (Met : Says T) : Type 0 where
   pub single : (κs : Lfts (T .signature .lifetimes)) (a : Args (T .signature) κs) (o u : Res (T .signature) κs × Lasts T κs a)
       → Met κs a (o .0) (atExit T κs a (o .1)) → Met κs a (u .0) (atExit T κs a (u .1)) → o ≡ u
 
--- The same of a function that gives back a part of what it was lent: two outcomes have the same bytes. Beside its bytes such a part has a
--- name, which the prover chooses anew for each part and no promise can tell.
-pub record OnePart (T : Ended) (bytes : (κs : Lfts (T .signature .lifetimes)) → Res (T .signature) κs → List ℕ) (Asked : Asks T)
+-- The same of a function that gives back a part of what it was lent: two outcomes have the same bytes, which stand at the same place.
+-- Beside these a part has a name, which the prover chooses anew for each and no promise can tell.
+pub record OnePart (T : Ended) (part : (κs : Lfts (T .signature .lifetimes)) → Res (T .signature) κs → RefT (List ℕ)) (Asked : Asks T)
     (Met : Says T) : Type 0 where
   pub asksNothing : (κs : Lfts (T .signature .lifetimes)) (a : Args (T .signature) κs) → Asked κs a
   pub single : (κs : Lfts (T .signature .lifetimes)) (a : Args (T .signature) κs) (o u : Res (T .signature) κs × Lasts T κs a)
       → Met κs a (o .0) (atExit T κs a (o .1)) → Met κs a (u .0) (atExit T κs a (u .1))
-      → (bytes κs (o .0) ≡ bytes κs (u .0)) × (o .1 ≡ u .1)
+      → (now (part κs (o .0)) ≡ now (part κs (u .0))) × (ptr (part κs (o .0)) ≡ ptr (part κs (u .0))) × (o .1 ≡ u .1)
 
 -- the promise of a function that gives back a number and is lent one thing: this number, and the thing is left so
 pub record Lent {A : Type 0} (number : ℕ) (lent : A) (r : ℕ) (after : A) : Type 0 where

@@ -18,7 +18,7 @@ use Rattle.writes.specs.declared.Given.the-variants.{Value, Nothing}
 use Rattle.writes.specs.Writes.{later, over}
 use Rattle.writes.proofs.Stored.{later-none, later-assoc}
 use Rattle.capture.specs.Format.{begins, frameBefore, trailerBegins, count, framesTo, frames}
-use Rattle.playback.specs.Settling.{wrote, lastWrite, known, InStep, only, below, Settles, LastWrites}
+use Rattle.playback.specs.Settling.{wrote, lastWrite, known, InStep, only, Settles, LastWrites}
 use Rattle.playback.proofs.Frames.{last-one-more}
 
 -- ---- what is known of an item
@@ -134,6 +134,10 @@ module _ (gives : ℕ → Given) (t : List ℤ) (settled : List Bool) (place : �
           unchanged i elsewhere ∙ sym (ap (later (known t settled i)) (other i elsewhere) ∙ later-none (known t settled i))
 
 -- ---- each item
+
+-- of what items are given, what those below a place are
+abbrev pub below : ℕ → (ℕ → Given) → ℕ → Given
+below place gives i = cond (ltb i place) (gives i) Nothing
 
 -- what the items below a place are given, with what the one there is given, is what those below the next are given
 pub below-next : (gives : ℕ → Given) (place i : ℕ) → later (below place gives i) (only place gives i) ≡ below (place + 1) gives i

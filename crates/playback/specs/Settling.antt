@@ -5,7 +5,7 @@ use Prim.Native.Nat.{ℕ, _<_}
 use mathlib.Core.Path.{_≡_}
 use mathlib.Core.Bool.{Bool, false, cond, _&&_}
 use mathlib.Core.List.{List, [], _∷_}
-use lib.Dec.{eqb, ltb}
+use lib.Dec.{eqb}
 use lib.IntN.{ℤ}
 use lib.ListN.{length, getD}
 use Rattle.numbers.specs.Numbers.{none}
@@ -37,12 +37,9 @@ pub record InStep (t : List ℤ) (settled : List Bool) : Type 0 where
   pub entries : length t ≡ items
   pub marks : length settled ≡ items
 
--- of what items are given, what one of them is, and what those below a place are
+-- of what items are given, what the one at a place is
 abbrev pub only : ℕ → (ℕ → Given) → ℕ → Given
 only place gives i = cond (eqb i place) (gives i) Nothing
-
-abbrev pub below : ℕ → (ℕ → Given) → ℕ → Given
-below place gives i = cond (ltb i place) (gives i) Nothing
 
 -- each item that was not settled is settled where it is given a value, and takes it; all else stays
 pub record Settles (gives : ℕ → Given) (t : List ℤ) (settled : List Bool) (left : List ℤ) (after : List Bool) : Type 0 where

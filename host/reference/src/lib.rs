@@ -198,3 +198,13 @@ pub fn show(capture: &[u8], frame: u32, place: &mut u32, length: &mut u32) -> u3
         }
     }
 }
+
+/// The same with place and length in the first two entries of a table, as a driver of the tests lends
+/// them.
+pub fn show_in(table: &mut [i32], capture: &[u8], frame: u32) -> u32 {
+    let [mut place, mut length] = [table[0] as u32, table[1] as u32];
+    let number = show(capture, frame, &mut place, &mut length);
+    table[0] = place as i32;
+    table[1] = length as i32;
+    number
+}

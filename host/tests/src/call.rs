@@ -113,7 +113,7 @@ impl Call {
             Function::ReadText => reference::read_text(self.decimals, input, &mut table[0]),
             Function::WriteText => reference::write_text(self.decimals, self.value, input),
             Function::Playback => reference::playback(table, self.address, input),
-            Function::Show => show(input, self.frame, table),
+            Function::Show => reference::show_in(table, input, self.frame),
         }
     }
 
@@ -208,16 +208,6 @@ impl fmt::Display for Call {
         }
         Ok(())
     }
-}
-
-/// Shows a frame by the reference. Its place and its length go where other calls have the first two
-/// entries of the table.
-fn show(capture: &[u8], frame: u32, table: &mut [i32]) -> u32 {
-    let [mut place, mut length] = [table[0] as u32, table[1] as u32];
-    let number = reference::show(capture, frame, &mut place, &mut length);
-    table[0] = place as i32;
-    table[1] = length as i32;
-    number
 }
 
 /// Pairs of hexadecimal digits; of a long capture those at both ends.

@@ -9,17 +9,17 @@ use Rattle.capture.proofs.begins.Tie as tie
 size-requires : tie.Need-size-requires
 size-requires c κs = search needs
 
-add-less : tie.Need-add-less
-add-less c =
+add-difference : tie.Need-add-difference
+add-difference c =
     let a = c .before .before .args in
     omega (arith, size-small (a .capture .now) (c .before .shared-slice-known .given) (a .end))
 
-less-requires : tie.Need-less-requires
-less-requires c κs = search needs
+difference-requires : tie.Need-difference-requires
+difference-requires c κs = search needs
 
 returns : tie.Need-returns
 unfolding begins
-returns c = rw (← (c .before .size .ensures)) (c .less .ensures)
+returns c = rw (← (c .before .size .ensures)) (c .difference .ensures)
 
 pub begins-spec : {M : Type 1} → statement M
-begins-spec = tie.close (tie.spec size-requires add-less less-requires returns)
+begins-spec = tie.close (tie.spec size-requires add-difference difference-requires returns)

@@ -62,7 +62,11 @@ returns : tie.Need-returns
 unfolding frameBefore
 returns c =
     let a = c .before .before .before .before .before .before .args in
-    rw (from (c .before), to (c .before)) (part-cut (a .capture .now) (begins (a .capture .now) (a .end)) (size (a .capture .now) (a .end)))
+    record {
+      bytes =
+          rw (from (c .before), to (c .before)) (part-cut (a .capture .now) (begins (a .capture .now) (a .end)) (size (a .capture .now) (a .end)));
+      stands = rw (from (c .before));
+    }
 
 pub frame-before-spec : {M : Type 1} → statement M
 frame-before-spec =

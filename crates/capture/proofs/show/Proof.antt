@@ -35,7 +35,7 @@ returns c =
     let a = l .before .before .args in
     let s = l .look-up .ensures in
     let long : l .look-up .result .place + l .look-up .result .len - l .look-up .result .place ≡ l .look-up .result .len = omega arith in
-    rw (long, s .place, s .len) (sym (shown-part (a .capture .now) (a .frame) .same))
+    record { bytes = rw (long, s .place, s .len) (sym (shown-part (a .capture .now) (a .frame) .same)); stands = rw (s .place) }
 
 pub show-spec : {M : Type 1} → statement M
 show-spec =

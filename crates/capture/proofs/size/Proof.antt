@@ -5,15 +5,15 @@ use borrow.Author.Needs.{needs}
 use Rattle.capture.proofs.size.Statement.{statement}
 use Rattle.capture.proofs.size.Tie as tie
 
-less-requires : tie.Need-less-requires
-less-requires c κs = search needs
+difference-requires : tie.Need-difference-requires
+difference-requires c κs = search needs
 
 two-at-requires : tie.Need-two-at-requires
 two-at-requires c κs = search needs
 
 returns : tie.Need-returns
 unfolding size
-returns c = c .two-at .ensures ∙ ap (twoAt (c .before .before .before .args .capture .now)) (c .before .less .ensures)
+returns c = c .two-at .ensures ∙ ap (twoAt (c .before .before .before .args .capture .now)) (c .before .difference .ensures)
 
 pub size-spec : {M : Type 1} → statement M
-size-spec = tie.close (tie.spec less-requires two-at-requires returns)
+size-spec = tie.close (tie.spec difference-requires two-at-requires returns)

@@ -4,12 +4,12 @@ use borrow.Author.Needs.{needs}
 use Rattle.capture.proofs.trailer_begins.Statement.{statement}
 use Rattle.capture.proofs.trailer_begins.Tie as tie
 
-less-requires : tie.Need-less-requires
-less-requires c κs = search needs
+difference-requires : tie.Need-difference-requires
+difference-requires c κs = search needs
 
 returns : tie.Need-returns
 unfolding trailerBegins
-returns c = c .less .ensures
+returns c = c .difference .ensures
 
 pub trailer-begins-spec : {M : Type 1} → statement M
-trailer-begins-spec = tie.close (tie.spec less-requires returns)
+trailer-begins-spec = tie.close (tie.spec difference-requires returns)

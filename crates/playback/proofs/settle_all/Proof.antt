@@ -55,7 +55,7 @@ loop-again c =
     let l = f .before .before .before .before in
     let a = l .before .before .before .before .args in
     walk-on (a .address) (a .capture .now) (a .table .now) (f .before .before .before .loop-test .taken) (c .begins .ensures) (l .loop .inv)
-    (rw (f .frame-before .ensures) at (w .settle .ensures))
+    (rw (f .frame-before .ensures .bytes) at (w .settle .ensures))
 
 same-length : tie.Need-same-length Inv-loop μ-loop
 same-length c = c .before .loop .inv .inStep .entries ∙ sym (c .before .before .before .before .before .pre)

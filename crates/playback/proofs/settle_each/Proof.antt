@@ -6,8 +6,8 @@ use native.Mathlib.Omega.{arith}
 use Rattle.items.specs.ItemList.{items}
 use Rattle.writes.specs.Writes.{given}
 use Rattle.settings.specs.Settings.{writesOf}
-use Rattle.playback.specs.Settling.{below, Settles}
-use Rattle.playback.proofs.Walked.{stays, by-gives, both-steps, below-none, below-next, below-all}
+use Rattle.playback.specs.Settling.{Settles}
+use Rattle.playback.proofs.Walked.{stays, by-gives, both-steps, below, below-none, below-next, below-all}
 use Rattle.playback.proofs.settle_each.Statement.{statement}
 use Rattle.playback.proofs.settle_each.Tie as tie
 

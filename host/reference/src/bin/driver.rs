@@ -94,17 +94,8 @@ fn call(request: &mut Request) -> u32 {
         6 => reference::read_text(request.decimals, input, &mut table[0]),
         7 => reference::write_text(request.decimals, request.value, input),
         8 => reference::playback(table, request.address, input),
-        _ => show(input, request.frame, table),
+        _ => reference::show_in(table, input, request.frame),
     }
-}
-
-/// Shows a frame. Its place and its length go where other calls have the first two entries.
-fn show(capture: &[u8], frame: u32, table: &mut [i32]) -> u32 {
-    let [mut place, mut length] = [table[0] as u32, table[1] as u32];
-    let number = reference::show(capture, frame, &mut place, &mut length);
-    table[0] = place as i32;
-    table[1] = length as i32;
-    number
 }
 
 /// Adds the answer to a request.
