@@ -16,11 +16,13 @@
  * What comes back
  *   Each call gives number + 256 * reply length. VB_NUMBER and VB_LENGTH take it apart. The reply
  *   stands in the first VB_LENGTH bytes of the reply buffer and is to be sent as it stands; where
- *   VB_LENGTH is 0 nothing is to be sent. All bytes behind it stay as they were.
+ *   VB_LENGTH is 0 nothing is to be sent. All bytes behind it stay as they were. vb_last_write
+ *   alone, which has no reply, says something else beside its number: VB_FOUND.
  *
  *   A number from 1 to 9 is the caller's fault, and such a call changes nothing that it was lent
- *   (the results of the two number text calls apart, see there). 51 and 52 are said of a capture.
- *   Any other number tells what the host did; firmware needs to act on none of them.
+ *   (the results of the two number text calls and of vb_last_write apart, see there). 51 and 52 are
+ *   said of a capture. Any other number tells what the host did; firmware needs to act on none of
+ *   them.
  *
  * The way out of 2 and of 5
  *   Once an entry of the table lies outside its range, every call that looks at the table gives 2,
@@ -70,9 +72,11 @@ extern "C" {
 /* The most that a capture has, in bytes. */
 #define VB_CAPTURE_BYTES 65536
 
-/* The two parts of a result. */
+/* The two parts of a result. The second is the length of the reply, or of vb_last_write's result
+ * whether it found a write: 1, else 0. */
 #define VB_NUMBER(result) ((result) % 256u)
 #define VB_LENGTH(result) ((result) / 256u)
+#define VB_FOUND(result) ((result) / 256u)
 
 /* The numbers given back. A call gives the first that it meets, in the order of this list; where it
  * tries them in another order, its own comment says so. */
@@ -83,9 +87,9 @@ enum vb_number {
     VB_WRONG_LENGTH = 1,      /* the table does not have VB_TABLE_ENTRIES entries */
     VB_ENTRY_OUTSIDE = 2,     /* an entry of the table lies outside its item's range */
     VB_SHORT_BUFFER = 3,      /* reply buffer under VB_REPLY_BYTES, or text under VB_TEXT_BYTES */
-    VB_BAD_SETTING = 4,       /* address over 99, or 0 for Modbus; structure over 2 */
+    VB_BAD_SETTING = 4,       /* address over 99, or 0 for Modbus and captures; structure over 2 */
     VB_BAD_STATE = 5,         /* the link state is outside its limits, or not VB_STATE_BYTES long */
-    VB_NO_SUCH_ITEM = 6,      /* put: the item number is not 1 to 12 */
+    VB_NO_SUCH_ITEM = 6,      /* put, last write: the item number is not 1 to 12 */
     VB_VALUE_OUTSIDE = 7,     /* put: the value lies outside the item's range */
     VB_DOES_NOT_FIT = 8,      /* writing text: the value does not fit six characters */
     VB_TOO_MANY_DECIMALS = 9, /* number text: more than three decimals */
@@ -119,8 +123,8 @@ enum vb_number {
     VB_LIST_ENDED = 45,     /* ACK after the last item: the end of the list, no fault */
     VB_NO_ROOM = 46,        /* the item's value does not fit: no value in its range is one */
 
-    /* A capture: nothing changed in the table, no frame shown. */
-    VB_BAD_CAPTURE = 51,  /* under 6 or over 65,536 bytes, or not well formed */
+    /* A capture: nothing changed in the table, no frame shown, no write found. */
+    VB_BAD_CAPTURE = 51,  /* under 6 or over 65,536 bytes, or not well formed as far as is read */
     VB_NO_SUCH_FRAME = 52 /* show: the capture has no frame of this number */
 };
 
@@ -327,6 +331,30 @@ uint32_t vb_playback(int32_t *table, uint64_t tn, uint8_t address, const uint8_t
  * Gives 0, or the first of 51 and 52 with place and length 0. */
 uint32_t vb_show(const uint8_t *capture, uint64_t cn, uint32_t frame, uint32_t *place,
                  uint32_t *length);
+
+/* Tells the last value that a host wrote to an item. It reads the capture from its end, record by
+ * record, up to the first frame that writes the item: one of 06H or 10H with the item's register in
+ * it, which a panel at this address accepts. Any other frame is passed over.
+ *
+ * capture, cn what was recorded, as for vb_playback
+ * address     of the panel that was written to, 1 to 99
+ * item        enum vb_item, 1 to 12. One that a host may only read is never written
+ * value       set to what was written, the number with its point left out, or 0
+ * records     set to how many records were read, the one that answers included, or 0
+ *
+ * Gives 0, or the first of 4, 6 and 51 with value and records 0. VB_FOUND of the result is 1 where
+ * there is such a frame. Where it is 0 with the number 0, the item was never written, all records
+ * were read, and the value is 0 (and not the start value, at which vb_playback leaves the item).
+ *
+ * Damage in front of the record that answers is not noticed, and the trailer's number of records is
+ * looked at only where none answers. So 0 is no proof that the capture is well formed; vb_playback
+ * and vb_show, which read all of it, give one. In a capture that is, the value found is the one at
+ * which vb_playback leaves the item.
+ *
+ * The time grows with the records that are read, and not with the capture's length; the stack grows
+ * with neither. */
+uint32_t vb_last_write(const uint8_t *capture, uint64_t cn, uint8_t address, uint32_t item,
+                       int32_t *value, uint32_t *records);
 
 #ifdef __cplusplus
 }
