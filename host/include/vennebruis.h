@@ -17,7 +17,7 @@
  *   Each call gives number + 256 * reply length. VB_NUMBER and VB_LENGTH take it apart. The reply
  *   stands in the first VB_LENGTH bytes of the reply buffer and is to be sent as it stands; where
  *   VB_LENGTH is 0 nothing is to be sent. All bytes behind it stay as they were. vb_last_write
- *   alone, which has no reply, says something else beside its number: VB_FOUND.
+ *   alone gives something else beside its number, and has no reply: VB_FOUND takes that out.
  *
  *   A number from 1 to 9 is the caller's fault, and such a call changes nothing that it was lent
  *   (the results of the two number text calls and of vb_last_write apart, see there). 51 and 52 are
@@ -72,8 +72,8 @@ extern "C" {
 /* The most that a capture has, in bytes. */
 #define VB_CAPTURE_BYTES 65536
 
-/* The two parts of a result. The second is the length of the reply, or of vb_last_write's result
- * whether it found a write: 1, else 0. */
+/* The two parts of a result. The second is the length of the reply; for vb_last_write it tells
+ * whether a write was found: 1, else 0. */
 #define VB_NUMBER(result) ((result) % 256u)
 #define VB_LENGTH(result) ((result) / 256u)
 #define VB_FOUND(result) ((result) / 256u)
@@ -347,9 +347,9 @@ uint32_t vb_show(const uint8_t *capture, uint64_t cn, uint32_t frame, uint32_t *
  * were read, and the value is 0 (and not the start value, at which vb_playback leaves the item).
  *
  * Damage in front of the record that answers is not noticed, and the trailer's number of records is
- * looked at only where none answers. So 0 is no proof that the capture is well formed; vb_playback
- * and vb_show, which read all of it, give one. In a capture that is, the value found is the one at
- * which vb_playback leaves the item.
+ * looked at only where none answers. So 0 with a write found is no proof that the capture is well
+ * formed; vb_playback and vb_show, which read all of it, give one. In a capture that is, the value
+ * found is the one at which vb_playback leaves the item.
  *
  * The time grows with the records that are read, and not with the capture's length; the stack grows
  * with neither. */
