@@ -1,5 +1,5 @@
 /* Plays a capture of RTU frames back, over the library for firmware: shows the table that the panel
-   ended with, or one of the frames. */
+   ended with, the last write to an item, or one of the frames. */
 #include <errno.h>
 #include <getopt.h>
 #include <stdbool.h>
@@ -19,17 +19,21 @@ static const char help[] =
     "panel-playback: plays a capture of Modbus RTU frames back\n"
     "\n"
     "usage: panel-playback FILE [--address N]\n"
+    "       panel-playback FILE --last ITEM [--address N]\n"
     "       panel-playback FILE --frame K\n"
     "\n"
     "  FILE          a capture, as panel-sim rtu --record makes one\n"
     "\n"
     "  --address N   the address of the panel that is played: 1 to 99 (1)\n"
+    "  --last ITEM   shows the last write to an item, such as PB, in place of the table\n"
     "  --frame K     shows a frame in place of the table; 1 is the first\n"
     "  -h, --help    this text\n"
     "\n"
     "The table is the one that a panel ends with which begins at the start values and is handed\n"
     "the frames one at a time: a line for each item, with its identifier and the number stored,\n"
     "the point left out. A frame is shown as its place in the file, from 0, its length and bytes.\n"
+    "The last write that the panel took is shown as its value and the number of records from it\n"
+    "to the end of the file, itself included; what stands in front of it is not looked at.\n"
     "Status 1: the file could not be read, or was refused, with the number and its meaning.\n"
     "Status 2: a bad command line.\n";
 
@@ -48,6 +52,7 @@ static struct {
 struct wish {
     const char *file;
     long address;
+    long item;
     long frame;
 };
 
@@ -66,6 +71,17 @@ static bool whole_number(const char *text, long lowest, long highest, long *numb
     return errno == 0 && end != text && *end == '\0' && *number >= lowest && *number <= highest;
 }
 
+/* The number of the item with this identifier. */
+static bool find_item(const char *identifier, long *item) {
+    for (size_t i = 0; i < VB_TABLE_ENTRIES; i++) {
+        if (strcmp(identifier, identifiers[i]) == 0) {
+            *item = (long)i + 1;
+            return true;
+        }
+    }
+    return false;
+}
+
 /* One option. getopt_long has already said what is wrong with one that it doesn't know. */
 static enum verdict read_option(struct wish *wish, int letter) {
     switch (letter) {
@@ -73,6 +89,9 @@ static enum verdict read_option(struct wish *wish, int letter) {
         return whole_number(optarg, 1, HIGHEST_ADDRESS, &wish->address)
                    ? VERDICT_START
                    : refuse("the address is 1 to 99");
+    case 'l':
+        return find_item(optarg, &wish->item) ? VERDICT_START
+                                              : refuse("no item has this identifier");
     case 'f':
         return whole_number(optarg, 0, UINT32_MAX, &wish->frame)
                    ? VERDICT_START
@@ -89,6 +108,7 @@ static enum verdict read_option(struct wish *wish, int letter) {
 static enum verdict read_all(struct wish *wish, int argc, char **argv) {
     static const struct option names[] = {
         {"address", required_argument, NULL, 'a'},
+        {"last", required_argument, NULL, 'l'},
         {"frame", required_argument, NULL, 'f'},
         {"help", no_argument, NULL, 'h'},
         {NULL, 0, NULL, 0},
@@ -103,8 +123,8 @@ static enum verdict read_all(struct wish *wish, int argc, char **argv) {
     if (argc - optind != 1) {
         return refuse("name one file");
     }
-    if (wish->address >= 0 && wish->frame >= 0) {
-        return refuse("--address belongs to the table, and a frame was asked for");
+    if (wish->frame >= 0 && (wish->address >= 0 || wish->item >= 0)) {
+        return refuse("--frame goes with neither --address nor --last");
     }
     wish->file = argv[optind];
     return VERDICT_START;
@@ -135,6 +155,22 @@ static uint32_t show_table(uint8_t address) {
     return number;
 }
 
+static uint32_t show_last(uint8_t address, uint32_t item) {
+    int32_t value;
+    uint32_t records;
+    uint32_t result = vb_last_write(capture.bytes, capture.length, address, item, &value, &records);
+    if (VB_NUMBER(result) != 0) {
+        return VB_NUMBER(result);
+    }
+    if (VB_FOUND(result)) {
+        printf("value   %d\n", value);
+    } else {
+        printf("never written\n");
+    }
+    printf("records %u\n", records);
+    return 0;
+}
+
 static uint32_t show_part(uint32_t frame) {
     uint32_t place;
     uint32_t length;
@@ -146,11 +182,18 @@ static uint32_t show_part(uint32_t frame) {
     return number;
 }
 
-/* Shows what is wished for, or the number of the refusal with its meaning. */
+/* Shows what is wished for, or gives the number of the refusal. */
+static uint32_t show_wished(const struct wish *wish) {
+    if (wish->frame >= 0) {
+        return show_part((uint32_t)wish->frame);
+    }
+    uint8_t address = (uint8_t)(wish->address < 0 ? DEFAULT_ADDRESS : wish->address);
+    return wish->item < 0 ? show_table(address) : show_last(address, (uint32_t)wish->item);
+}
+
+/* The same, with the meaning of a refusal. */
 static bool show(const struct wish *wish) {
-    long address = wish->address < 0 ? DEFAULT_ADDRESS : wish->address;
-    uint32_t number =
-        wish->frame < 0 ? show_table((uint8_t)address) : show_part((uint32_t)wish->frame);
+    uint32_t number = show_wished(wish);
     if (number != 0) {
         show_number(number);
         return false;
@@ -159,7 +202,7 @@ static bool show(const struct wish *wish) {
 }
 
 int main(int argc, char **argv) {
-    struct wish wish = {.address = -1, .frame = -1};
+    struct wish wish = {.address = -1, .item = -1, .frame = -1};
     switch (read_all(&wish, argc, argv)) {
     case VERDICT_HELP:
         return STATUS_DONE;
