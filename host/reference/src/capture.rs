@@ -11,18 +11,23 @@ const TRAILER_LENGTH: usize = 6;
 const MOST: usize = 65_536;
 
 /// A number in some bytes, the high one first.
-fn number(bytes: &[u8]) -> usize {
+pub fn number(bytes: &[u8]) -> usize {
     let add = |sum, byte: &u8| 256 * sum + usize::from(*byte);
     bytes.iter().fold(0, add)
+}
+
+/// The records of a capture, and its trailer. None for a capture under 6 or over 65,536 bytes.
+pub fn in_parts(capture: &[u8]) -> Option<(&[u8], &[u8])> {
+    if capture.len() < TRAILER_LENGTH || capture.len() > MOST {
+        return None;
+    }
+    Some(capture.split_at(capture.len() - TRAILER_LENGTH))
 }
 
 /// Where the frames of a capture stand in it, in the order in which they were recorded. None for a
 /// capture under 6 or over 65,536 bytes or not well formed.
 pub fn frames(capture: &[u8]) -> Option<Vec<Range<usize>>> {
-    if capture.len() < TRAILER_LENGTH || capture.len() > MOST {
-        return None;
-    }
-    let (records, trailer) = capture.split_at(capture.len() - TRAILER_LENGTH);
+    let (records, trailer) = in_parts(capture)?;
     let mut frames = walk_back(records)?;
     let place = frames.first().map_or(0, |last| last.start);
     if number(&trailer[..2]) != frames.len() || number(&trailer[2..]) != place {
@@ -47,7 +52,7 @@ fn walk_back(records: &[u8]) -> Option<Vec<Range<usize>>> {
 
 /// The frame of the last record, which begins where its frame does. None where the record would
 /// begin before place 0, or have a frame that is not 1 to 256 bytes long.
-fn last_frame(records: &[u8]) -> Option<Range<usize>> {
+pub fn last_frame(records: &[u8]) -> Option<Range<usize>> {
     let end = records.len().checked_sub(2)?;
     let length = number(&records[end..]);
     if !(1..=256).contains(&length) {

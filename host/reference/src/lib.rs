@@ -10,6 +10,7 @@
 
 pub mod capture;
 pub mod items;
+pub mod last_write;
 pub mod line;
 pub mod link;
 pub mod modbus;
@@ -207,4 +208,45 @@ pub fn show_in(table: &mut [i32], capture: &[u8], frame: u32) -> u32 {
     table[0] = place as i32;
     table[1] = length as i32;
     number
+}
+
+/// The last value that a host wrote to an item of an instrument at this address, and the number of
+/// records that were read to find it, the answering one included: 4, 6, 51 or 0, with 256 added where
+/// a write was found. A refusal gives value 0 and 0 records, an item that was never written value 0
+/// and the number of all records.
+pub fn last_write(
+    capture: &[u8],
+    address: u8,
+    item: u32,
+    value: &mut i32,
+    records: &mut u32,
+) -> u32 {
+    *value = 0;
+    *records = 0;
+    if address == 0 || address > 99 {
+        return 4;
+    }
+    if !(1..=12).contains(&item) {
+        return 6;
+    }
+    let told = match last_write::told(capture, address, item as usize) {
+        Some(told) => told,
+        None => return 51,
+    };
+    *records = told.records as u32;
+    match told.value {
+        Some(written) => {
+            *value = written;
+            256
+        }
+        None => 0,
+    }
+}
+
+/// The same with value and records in the first two entries of a table.
+pub fn last_write_in(table: &mut [i32], capture: &[u8], address: u8, item: u32) -> u32 {
+    let mut records = table[1] as u32;
+    let result = last_write(capture, address, item, &mut table[0], &mut records);
+    table[1] = records as i32;
+    result
 }

@@ -227,6 +227,22 @@ fn show(frame: u32, capture: &str) {
     }
 }
 
+/// The last write to an item in a capture.
+fn last(address: u8, item: u32, capture: &str) {
+    let (mut value, mut records) = (0, 0);
+    let captured = bytes(capture);
+    let result = reference::last_write(&captured, address, item, &mut value, &mut records);
+    let outcome = match result {
+        0 => format!("0: never written, records {}", records),
+        256 => format!("0: {}, records {}", value, records),
+        number => number.to_string(),
+    };
+    println!(
+        "last {:02X}, item {}: {} -> {}",
+        address, item, capture, outcome
+    );
+}
+
 /// Document 01.
 fn specification() {
     read("PB", "-.5");
@@ -332,15 +348,29 @@ fn modbus_documents() {
     pdu("10 00 10 00 03 06 FF 6A 03 E8 00 64");
 }
 
-/// Document 02's captures: none recorded, three frames, and one frame where the trailer counts two.
+/// A capture of three frames, and one of a single frame whose trailer counts two.
+const THREE: &str = "01 06 00 10 01 02 08 5E 00 08 01 06 00 10 FF 6A 49 D0 00 08 \
+                     01 06 00 F4 00 32 49 ED 00 08 00 03 00 00 00 14";
+const COUNTED_TWICE: &str = "01 06 00 10 01 02 08 5E 00 08 00 02 00 00 00 00";
+
+/// Document 02's captures played back and shown.
 fn captures() {
-    let three = "01 06 00 10 01 02 08 5E 00 08 01 06 00 10 FF 6A 49 D0 00 08 \
-                 01 06 00 F4 00 32 49 ED 00 08 00 03 00 00 00 14";
     playback(1, "00 00 00 00 00 00");
-    playback(1, three);
-    show(2, three);
-    show(4, three);
-    playback(1, "01 06 00 10 01 02 08 5E 00 08 00 02 00 00 00 00");
+    playback(1, THREE);
+    show(2, THREE);
+    show(4, THREE);
+    playback(1, COUNTED_TWICE);
+}
+
+/// Document 02's last write to an item: in the capture of three frames, in the same with a first
+/// record of no length, and where the count is wrong.
+fn last_writes() {
+    let damaged = "01 06 00 10 01 02 08 5E 00 00 01 06 00 10 FF 6A 49 D0 00 08 \
+                   01 06 00 F4 00 32 49 ED 00 08 00 03 00 00 00 14";
+    for capture in [THREE, damaged, COUNTED_TWICE] {
+        last(1, 9, capture);
+        last(1, 11, capture);
+    }
 }
 
 fn main() {
@@ -351,4 +381,5 @@ fn main() {
     pg500();
     modbus_documents();
     captures();
+    last_writes();
 }

@@ -94,7 +94,8 @@ fn call(request: &mut Request) -> u32 {
         6 => reference::read_text(request.decimals, input, &mut table[0]),
         7 => reference::write_text(request.decimals, request.value, input),
         8 => reference::playback(table, request.address, input),
-        _ => reference::show_in(table, input, request.frame),
+        9 => reference::show_in(table, input, request.frame),
+        _ => reference::last_write_in(table, input, request.address, request.item),
     }
 }
 

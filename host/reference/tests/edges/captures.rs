@@ -7,14 +7,14 @@ use reference::modbus::with_crc;
 const BEFORE: [i32; 12] = [i32::MIN; 12];
 
 /// A frame with its number of bytes behind it.
-fn record(frame: &[u8]) -> Vec<u8> {
+pub fn record(frame: &[u8]) -> Vec<u8> {
     let mut record = frame.to_vec();
     record.extend((frame.len() as u16).to_be_bytes());
     record
 }
 
 /// Records with a trailer that may not be theirs.
-fn with_trailer(records: &[u8], count: u16, place: u32) -> Vec<u8> {
+pub fn with_trailer(records: &[u8], count: u16, place: u32) -> Vec<u8> {
     let mut capture = records.to_vec();
     capture.extend(count.to_be_bytes());
     capture.extend(place.to_be_bytes());
@@ -22,14 +22,14 @@ fn with_trailer(records: &[u8], count: u16, place: u32) -> Vec<u8> {
 }
 
 /// A well formed capture of these frames.
-fn capture(frames: &[Vec<u8>]) -> Vec<u8> {
+pub fn capture(frames: &[Vec<u8>]) -> Vec<u8> {
     let records: Vec<u8> = frames.iter().flat_map(|frame| record(frame)).collect();
     let last = frames.last().map_or(0, |frame| frame.len() + 2);
     with_trailer(&records, frames.len() as u16, (records.len() - last) as u32)
 }
 
 /// A 06H for address 1.
-fn write(register: u8, value: i16) -> Vec<u8> {
+pub fn write(register: u8, value: i16) -> Vec<u8> {
     let mut body = vec![1, 0x06, 0, register];
     body.extend(value.to_be_bytes());
     with_crc(body)

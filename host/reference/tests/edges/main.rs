@@ -3,6 +3,7 @@
 mod block;
 mod calls;
 mod captures;
+mod last_write;
 mod phases;
 mod polling_on;
 mod rtu;

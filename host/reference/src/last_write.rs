@@ -1,0 +1,107 @@
+//! The last value that a host wrote to one item, as document 02 asks a capture for it.
+//!
+//! The walk goes back from the trailer and stops at the first frame met that writes the item. What
+//! stands in front of that frame is not looked at, so damage there is not noticed.
+
+use crate::capture::{in_parts, last_frame, number};
+use crate::modbus;
+
+/// What a capture tells of an item.
+#[derive(Debug, PartialEq, Eq)]
+pub struct Told {
+    /// The value of the last write, none where the item was never written.
+    pub value: Option<i32>,
+    /// The number of records read: from the end up to the one that answers, both counted, or all.
+    pub records: usize,
+}
+
+/// What a capture tells of an item of the instrument at this address. None for a capture under 6 or
+/// over 65,536 bytes, or for damage met on the way.
+pub fn told(capture: &[u8], address: u8, item: usize) -> Option<Told> {
+    let (records, trailer) = in_parts(capture)?;
+    if number(&trailer[2..]) != place_of_last(records)? {
+        return None;
+    }
+    let mut read = 0;
+    let mut end = records.len();
+    while end > 0 {
+        // Each record is looked at before its frame.
+        let frame = last_frame(&records[..end])?;
+        end = frame.start;
+        read += 1;
+        let value = written(&records[frame], address, item);
+        if value.is_some() {
+            return Some(Told {
+                value,
+                records: read,
+            });
+        }
+    }
+    // The count comes last: place 0 is reached, and no frame has answered.
+    if number(&trailer[..2]) != read {
+        return None;
+    }
+    Some(Told {
+        value: None,
+        records: read,
+    })
+}
+
+/// Where the last record begins, 0 if there are none. None where no record can end here.
+fn place_of_last(records: &[u8]) -> Option<usize> {
+    if records.is_empty() {
+        return Some(0);
+    }
+    Some(last_frame(records)?.start)
+}
+
+/// What an entry has that no frame has written. It is in no item's range, so no frame that is
+/// accepted brings it, and a register has room for it, so a read of it can be answered.
+const UNWRITTEN: i32 = 0x7FFF;
+
+/// The value that a frame writes to an item of the instrument at this address; none where it is
+/// refused, passed over, or writes no such item. Whether a frame is accepted does not depend on the
+/// table, so one in which nothing was written shows what the frame writes, be it the value that the
+/// item had.
+fn written(frame: &[u8], address: u8, item: usize) -> Option<i32> {
+    let mut table = [UNWRITTEN; 12];
+    modbus::answer(&mut table, address, frame);
+    let entry = table[item - 1];
+    if entry == UNWRITTEN {
+        None
+    } else {
+        Some(entry)
+    }
+}
+
+#[cfg(test)]
+mod tests {
+    use super::*;
+    use crate::items;
+    use crate::modbus::with_crc;
+
+    #[test]
+    fn no_item_can_have_what_was_not_written() {
+        for item in 1..=12 {
+            assert!(!items::in_range(item, UNWRITTEN));
+        }
+    }
+
+    #[test]
+    fn a_frame_writes_the_items_that_it_names() {
+        let frame = with_crc(vec![1, 0x10, 0, 0x10, 0, 2, 4, 0xFF, 0x6A, 3, 0xE8]);
+        assert_eq!(written(&frame, 1, 9), Some(-150));
+        assert_eq!(written(&frame, 1, 10), Some(1000));
+        assert_eq!(written(&frame, 1, 8), None);
+        assert_eq!(written(&frame, 1, 11), None);
+        assert_eq!(written(&frame, 2, 9), None);
+    }
+
+    #[test]
+    fn a_read_of_all_registers_writes_none() {
+        let frame = with_crc(vec![1, 0x03, 0, 0, 0, 19]);
+        for item in 1..=12 {
+            assert_eq!(written(&frame, 1, item), None);
+        }
+    }
+}
