@@ -41,6 +41,13 @@ def setting(name, value, address=1):
     return frame_of(address, struct.pack(">BHH", 0x06, *words))
 
 
+def changed(held, place):
+    """These bytes with a bit changed in the one at a place."""
+    other = bytearray(held)
+    other[place] ^= 1
+    return bytes(other)
+
+
 def nearly_full(last):
     """The frames of a capture of 65,290 bytes, of which the first sets S1 to 123, and one more. If
     that has 244 bytes, their capture has 65,536, which is the most."""
@@ -58,6 +65,16 @@ def shown(frames, number):
     frame = frames[number - 1]
     place = sum(len(before) + LENGTH_BYTES for before in frames[: number - 1])
     return [f"place   {place}", f"length  {len(frame)}", f"bytes   {frame.hex(' ').upper()}"]
+
+
+def found(value, records):
+    """A last write, as the program shows it, with the records up to the one that holds it."""
+    return [f"value   {value}", f"records {records}"]
+
+
+def never(records):
+    """That there is none in all of the records."""
+    return ["never written", f"records {records}"]
 
 
 def content(path):
@@ -91,6 +108,9 @@ class Playback:
 
     def table(self, path, address=1):
         return self.ask(path, "--address", str(address))
+
+    def last(self, path, name, address=1):
+        return self.ask(path, "--last", name, "--address", str(address))
 
     def frame(self, path, number):
         return self.ask(path, "--frame", str(number))

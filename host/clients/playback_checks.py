@@ -1,6 +1,7 @@
-"""Playback of captures that are written here, byte by byte: good ones, the longest, and what is no
-capture; and the program's command line."""
+"""Playback of captures that are written here, byte by byte: good ones, the longest, damaged ones,
+and what is no capture; and the program's command line."""
 
+import panel
 from captures import (
     BAD_CAPTURE,
     EMPTY,
@@ -10,8 +11,12 @@ from captures import (
     TRAILER_BYTES,
     Playback,
     capture,
+    changed,
     file_with,
+    found,
+    frame_of,
     nearly_full,
+    never,
     setting,
     shown,
     table,
@@ -28,11 +33,45 @@ BAD_COMMAND_LINES = (
     "capture --frame first",
     "capture --frame 4294967296",
     "capture --address 1 --frame 1",
+    "capture --last",
+    "capture --last 9",
+    "capture --last pb",
+    "capture --last PB1",
+    "capture --last PB --frame 1",
+    "capture --last PB --address 0",
     "capture --unheard-of",
 )
 
 # F1 is set, then set again.
 FRAMES = [setting("F1", 5), bytes(1), setting("F1", 6), setting("PB", -8)]
+
+# Frames that are close to a write of F1 at address 1.
+PASSED_OVER = [
+    changed(setting("F1", 7), -1),
+    setting("F1", 7, address=2),
+    setting("F1", 101),  # above its range
+    setting("PR", 1007),
+    frame_of(1, bytes.fromhex("03 00 12 00 01")),  # a read of F1
+    frame_of(1, bytes.fromhex("06 00 12 00 07 00")),  # a byte too long
+    frame_of(1, bytes.fromhex("10 00 11 00 02 04 00 07 00 07")),  # with PR below its range
+]
+
+# PR is set to 1008, and F1 to 8.
+TOGETHER = frame_of(1, bytes.fromhex("10 00 11 00 02 04 03 F0 00 08"))
+
+# The parts of the capture of FRAMES, and what is shown where a bit in one is wrong: the table, and
+# the last write to PB, which is in the last record, to F1, which is in the third, and to S1.
+ANSWERED_BEHIND = (BAD_CAPTURE, found(-8, 1), found(6, 2), BAD_CAPTURE)
+DAMAGE = {
+    "length of record 1": (range(8, 10), ANSWERED_BEHIND),
+    "length of record 2": (range(11, 13), ANSWERED_BEHIND),
+    "frame 3": (range(13, 21), (table(F1=5, PB=-8), found(-8, 1), found(5, 4), never(4))),
+    "length of record 3": (range(21, 23), (BAD_CAPTURE, found(-8, 1), BAD_CAPTURE, BAD_CAPTURE)),
+    "frame 4": (range(23, 31), (table(F1=6), never(4), found(6, 2), never(4))),
+    "length of record 4": (range(31, 33), (BAD_CAPTURE,) * 4),
+    "number of records": (range(33, 35), ANSWERED_BEHIND),
+    "place of the last record": (range(35, 39), (BAD_CAPTURE,) * 4),
+}
 
 
 def command_line(checks, playback):
@@ -57,18 +96,39 @@ def good(checks, playback):
             checks.same(f"no frame {number}", playback.frame(path, number), NO_SUCH_FRAME)
 
 
+def last_writes(checks, playback):
+    """The last frame that writes the item answers, and what stands behind it is counted."""
+    behind, frames = len(PASSED_OVER), FRAMES + PASSED_OVER
+    with file_with(capture(frames)) as path:
+        got = playback.ask(path, "--last", "F1")
+        checks.same("last write behind others", got, found(6, behind + 2))
+        checks.same("at another address", playback.last(path, "F1", 2), found(7, behind - 1))
+        checks.same("no last write", playback.last(path, "S1"), never(len(frames)))
+    with file_with(capture([*FRAMES, TOGETHER])) as path:
+        got = [playback.last(path, name) for name in ("PR", "F1", "PB")]
+        checks.same("written together", got, [found(1008, 1), found(8, 1), found(-8, 2)])
+    with file_with(EMPTY) as path:
+        got = [playback.last(path, row.name) for row in panel.ITEMS]
+        checks.same("no last write in no record", got, [never(0)] * len(panel.ITEMS))
+
+
 def longest(checks, playback):
     frames = nearly_full(244)
     with file_with(capture(frames)) as path:
         checks.same("a capture of 65,536 bytes", playback.table(path), table(S1=123))
         got = playback.frame(path, len(frames))
         checks.same("its last frame", got, shown(frames, len(frames)))
+        got = playback.last(path, "S1")
+        checks.same("a last write in its first frame", got, found(123, len(frames)))
 
 
-def changed(place):
-    """The capture with one bit changed at a place."""
-    right = capture(FRAMES)
-    return right[:place] + bytes([right[place] ^ 1]) + right[place + 1 :]
+def damaged(checks, playback):
+    """A last write is found whatever stands in front of it, where playback refuses."""
+    for part, (places, expected) in DAMAGE.items():
+        for place in places:
+            with file_with(changed(capture(FRAMES), place)) as path:
+                last = (playback.last(path, name) for name in ("PB", "F1", "S1"))
+                checks.same(f"{part}, at {place}", (playback.table(path), *last), expected)
 
 
 def no_captures():
@@ -76,7 +136,7 @@ def no_captures():
     found out."""
     right = capture(FRAMES)
     for place in range(len(right) - TRAILER_BYTES - LENGTH_BYTES, len(right)):
-        yield f"another byte at {place}", changed(place)
+        yield f"another byte at {place}", changed(right, place)
     yield "the first byte missing", right[1:]
     yield "the last byte missing", right[:-1]
     yield "a byte more before it", bytes(1) + right
@@ -92,14 +152,15 @@ def no_captures():
 
 
 def bad(checks, playback):
+    """None of them writes TM, so its last write is looked for to the front."""
     for name, held in no_captures():
         with file_with(held) as path:
-            got = (playback.table(path), playback.frame(path, 1))
-            checks.same(name, got, (BAD_CAPTURE, BAD_CAPTURE))
+            got = (playback.table(path), playback.frame(path, 1), playback.last(path, "TM"))
+            checks.same(name, got, (BAD_CAPTURE,) * 3)
 
 
 def run(checks, command):
     playback = Playback(command)
-    for part in (command_line, good, longest, bad):
+    for part in (command_line, good, last_writes, longest, damaged, bad):
         with checks.of("playback"):
             part(checks, playback)

@@ -21,10 +21,13 @@ from captures import (
     NO_SUCH_FRAME,
     Playback,
     capture,
+    changed,
     content,
     file_with,
+    found,
     frame_of,
     nearly_full,
+    never,
     setting,
     shown,
     table,
@@ -81,6 +84,20 @@ SESSION = (
     read(0, panel.MAP_LENGTH + 1, exception(ILLEGAL_ADDRESS)),
 )
 
+# What is recorded of a session: its steps, and a read of all registers behind them.
+RECORDS = len(SESSION) + 1
+
+# Each item's last write in a session. What is refused behind it is not one.
+LAST_WRITES = {
+    "S1": found(77, 8),
+    "A1": found(-1999, 8),
+    "A2": found(9999, 14),
+    "PB": found(1000, 7),
+    "PR": found(1500, 7),
+    "F1": found(7, 7),
+    "TM": found(999, 10),
+}
+
 
 @contextlib.contextmanager
 def recording(command, *words, said=None):
@@ -120,6 +137,15 @@ def whole(checks, playback, path, frames):
     checks.same("one frame more", playback.frame(path, len(frames) + 1), NO_SUCH_FRAME)
 
 
+def last_writes(checks, playback, path, address):
+    """Each item's last write in a session, which no other panel has taken."""
+    for row in panel.ITEMS:
+        expected = LAST_WRITES.get(row.name, never(RECORDS))
+        checks.same(f"last write to {row.name}", playback.last(path, row.name, address), expected)
+    got = [playback.last(path, name, address - 1) for name in LAST_WRITES]
+    checks.same("none at another address", got, [never(RECORDS)] * len(LAST_WRITES))
+
+
 def session(checks, command, client_of):
     """A client's session. Playback has what the client reads at the end; only the entries of AA and
     AB stay 0, since what they answer is worked out."""
@@ -138,6 +164,7 @@ def session(checks, command, client_of):
         expected = table(**(values | {"AA": 0, "AB": 0}))
         checks.same("played back", playback.table(path, address), expected)
         checks.same("at another address", playback.table(path, address - 1), table())
+        last_writes(checks, playback, path, address)
         steps = (*SESSION, read(0, panel.MAP_LENGTH, registers))
         whole(checks, playback, path, [frame_of(address, step.message) for step in steps])
 
@@ -157,7 +184,7 @@ def frames_of_our_own(checks, command):
     capture after each."""
     right = setting("S1", 321)
     frames = {
-        "a damaged frame": right[:-1] + bytes([right[-1] ^ 1]),
+        "a damaged frame": changed(right, -1),
         "a frame for another address": setting("A1", 7, address=2),
         "a frame of one byte": right[:1],
         "a frame of 256 bytes": frame_of(1, bytes(LONGEST_FRAME - 3)),
@@ -172,6 +199,9 @@ def frames_of_our_own(checks, command):
                 checks.same(name, got, (True, capture(sent)))
         playback = Playback(command)
         checks.same("played back meanwhile", playback.table(path), table(S1=321))
+        checks.same("last write meanwhile", playback.last(path, "S1"), found(321, 1))
+        checks.same("none for this address", playback.last(path, "A1"), never(len(sent)))
+        checks.same("one for another", playback.last(path, "A1", 2), found(7, len(sent) - 1))
         whole(checks, playback, path, sent)
 
 
