@@ -1,10 +1,10 @@
 /* Makes the calls of one case through the C functions of the link, for their instructions to be
- * counted: link CASE, and behind it the capture for the case playback or show. Whatever has these
- * functions can be linked to it.
+ * counted: link CASE, and behind it the capture for the case playback, show or last-write. Whatever
+ * has these functions can be linked to it.
  *
  * It prints where the counted functions stand, for each call that gave something the number and the
- * reply, the table or the place and length, and how many bytes it handed over, or frames of a
- * capture. */
+ * reply, the table, the place and length or the last write, how many bytes it handed over, and how
+ * many frames and bytes the capture has. */
 #include "captures.h"
 #include "frames.h"
 #include "vennebruis.h"
@@ -22,16 +22,27 @@ static uint8_t reply[VB_REPLY_BYTES];
 static struct capture capture;
 static unsigned handed_over;
 
-/* Captures that hold one of the requests again and again: the most frames that there is room for,
- * half as many, and the most writes. */
-static const struct repeated {
-    const char *name;
+/* One of the requests again and again. */
+struct repeated {
     const char *request;
     size_t frames;
+};
+
+enum { PARTS = 2 };
+
+/* The most frames that there is room for, half as many, and the most writes; then one write, behind
+ * others in 100 bytes and in as many as there can be, and in front of these and of half of them. */
+static const struct made {
+    const char *name;
+    struct repeated parts[PARTS];
 } captures[] = {
-    {"full", "one-byte", 21843},
-    {"half", "one-byte", 10921},
-    {"writes", "write", 6553},
+    {"full", {{"one-byte", 21843}}},
+    {"half", {{"one-byte", 10921}}},
+    {"writes", {{"write", 6553}}},
+    {"last-of-29", {{"one-byte", 28}, {"write", 1}}},
+    {"last-of-21841", {{"one-byte", 21840}, {"write", 1}}},
+    {"first-of-21841", {{"write", 1}, {"one-byte", 21840}}},
+    {"first-of-10921", {{"write", 1}, {"one-byte", 10920}}},
 };
 
 enum { CAPTURES = sizeof captures / sizeof captures[0] };
@@ -93,15 +104,18 @@ static const struct request *request_of(const char *name) {
     return NULL;
 }
 
-static void repeat(const struct request *request, size_t frames) {
-    for (size_t i = 0; i < frames; i++)
+static void repeat(const struct repeated *part) {
+    for (size_t i = 0; i < part->frames; i++) {
+        const struct request *request = request_of(part->request);
         capture_add(&capture, request->bytes, request->n);
+    }
 }
 
 static void make_capture(const char *name) {
     for (size_t i = 0; i < CAPTURES; i++)
         if (strcmp(name, captures[i].name) == 0)
-            repeat(request_of(captures[i].request), captures[i].frames);
+            for (size_t part = 0; part < PARTS; part++)
+                repeat(&captures[i].parts[part]);
     capture_end(&capture);
 }
 
@@ -119,12 +133,20 @@ static void show_first(void) {
     printf("gave %u: %u %u\n", (unsigned)number, (unsigned)place, (unsigned)length);
 }
 
+static void last_write(void) {
+    int32_t value;
+    uint32_t records;
+    uint32_t result = vb_last_write(capture.bytes, capture.n, ADDRESS, VB_PB, &value, &records);
+    printf("gave %u: %s %d %u\n", (unsigned)VB_NUMBER(result), VB_FOUND(result) ? "found" : "never",
+           (int)value, (unsigned)records);
+}
+
 int main(int argc, char **argv) {
     const char *name = argc > 1 ? argv[1] : "";
     printf("at vb_rtu %lx\nat vb_byte %lx\nat ten_rounds_twice %lx\n", (unsigned long)vb_rtu,
            (unsigned long)vb_byte, (unsigned long)ten_rounds_twice);
-    printf("at vb_playback %lx\nat vb_show %lx\n", (unsigned long)vb_playback,
-           (unsigned long)vb_show);
+    printf("at vb_playback %lx\nat vb_show %lx\nat vb_last_write %lx\n", (unsigned long)vb_playback,
+           (unsigned long)vb_show, (unsigned long)vb_last_write);
     vb_start_table(table, VB_TABLE_ENTRIES);
     vb_start_link(link_state, sizeof link_state);
     vb_put(table, VB_TABLE_ENTRIES, VB_M1, 1234);
@@ -143,6 +165,9 @@ int main(int argc, char **argv) {
         playback();
     if (strcmp(name, "show") == 0)
         show_first();
-    printf("bytes %u\nframes %u\n", handed_over, (unsigned)capture.frames);
+    if (strcmp(name, "last-write") == 0)
+        last_write();
+    printf("bytes %u\nframes %u\ncapture %u\n", handed_over, (unsigned)capture.frames,
+           (unsigned)capture.n);
     return 0;
 }

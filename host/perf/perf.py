@@ -35,13 +35,26 @@ ROWS = {
     "half": "playback of 10,921 frames of one byte",
     "writes": "playback of 6,553 writes (06H), per write",
     "show": "show of the first of 21,843 frames",
+    "last-of-29": "last write, in the last record of 100 bytes",
+    "last-of-21841": "last write, in the last record of 65,536 bytes",
+    "first-of-10921": "last write, in the first of 10,921 records",
+    "first-of-21841": "last write, in the first of 21,841 records",
     "code": "code, bytes",
     "constants": "constants, bytes",
     "stack": "stack of the deepest call, bytes",
 }
 
-# What playback takes more of, at most, where the capture has twice as many frames. A walk through
-# the capture for each frame would take four times as much.
+# The captures in which the last write to PB is looked for: their bytes, and the records that are
+# read.
+LAST_WRITES = {
+    "last-of-29": (100, 1),
+    "last-of-21841": (65536, 1),
+    "first-of-10921": (32776, 10921),
+    "first-of-21841": (65536, 21841),
+}
+
+# What a call takes more of, at most, where it reads twice as many records. A walk through the
+# capture for each of them would take four times as much.
 MOST_GROWTH = 2.5
 
 # The requests that libmodbus knows, too.
@@ -54,7 +67,7 @@ def replies(printed):
 
 
 def handed_over(printed, what="bytes"):
-    """The number of bytes that the calls were handed, or of frames in a capture."""
+    """The number of bytes that the calls were handed, or of frames or bytes in a capture."""
     return int(re.search(rf"^{what} (\d+)$", printed, re.MULTILINE)[1])
 
 
@@ -99,10 +112,22 @@ def captures(program):
     return figures, gave
 
 
+def last_writes(program):
+    """The instructions of a last write that is found, and what came back."""
+    figures, gave = {}, {}
+    for case, (length, records) in LAST_WRITES.items():
+        figures[case], printed = count([*program, "last-write", case], ["vb_last_write"])
+        gave[case] = replies(printed)
+        got = (handed_over(printed, "capture"), gave[case])
+        if got != (length, [f"0: found -150 {records}"]):
+            raise SystemExit(f"perf: {case} is {got}")
+    return figures, gave
+
+
 def link(program, file):
     """All figures of an implementation with the C functions of the link."""
     figures, gave = modbus(program, ["vb_rtu"], [*SHARED, "loopback"])
-    for part in (rkc, captures):
+    for part in (rkc, captures, last_writes):
         more, gave_more = part(program)
         figures, gave = figures | more, gave | gave_more
     return figures | sizes.both(file), gave
@@ -128,6 +153,22 @@ def table(library, others):
         yield f"| {' | '.join(cells)} |"
 
 
+def growth(library):
+    """Tells what the cost of a capture grows with, and ends with an error where it must not."""
+    for name, twice, once in (
+        ("Playback of twice as many frames", "full", "half"),
+        ("A last write before twice as many records", "first-of-21841", "first-of-10921"),
+    ):
+        times = library[twice] / library[once]
+        print(f"{name} takes {times:.2f} times the instructions.")
+        if times > MOST_GROWTH:
+            raise SystemExit(f"perf: that is more than {MOST_GROWTH} times")
+    short, long = library["last-of-29"], library["last-of-21841"]
+    print(f"One in the last record takes {short} in 100 bytes and {long} in 65,536.")
+    if short != long:
+        raise SystemExit("perf: that grows with the capture, and not with the records read")
+
+
 def main():
     """Measures all three and prints the table."""
     kit.refuse_what_is_missing()
@@ -149,10 +190,7 @@ def main():
     reply = sizes.function(kit.libmodbus(), "modbus_reply")
     print(f"\nOf libmodbus's code, which is all of it, modbus_reply alone has {reply} bytes.")
     print(f"Stack by function: {', '.join(f'{name} {n}' for name, n in stack.items())}.")
-    growth = library["full"] / library["half"]
-    print(f"Playback of twice as many frames takes {growth:.2f} times the instructions.")
-    if growth > MOST_GROWTH:
-        raise SystemExit(f"perf: that is more than {MOST_GROWTH} times")
+    growth(library)
 
 
 main()

@@ -88,3 +88,18 @@ pub unsafe extern "C" fn vb_show(
 ) -> u32 {
     reference::show(from_raw_parts(capture, n), frame, &mut *place, &mut *length)
 }
+
+/// # Safety
+/// `capture` has `n` bytes; `value` and `records` are a number each, and none overlaps another.
+#[no_mangle]
+pub unsafe extern "C" fn vb_last_write(
+    capture: *const u8,
+    n: usize,
+    address: u8,
+    item: u32,
+    value: *mut i32,
+    records: *mut u32,
+) -> u32 {
+    let capture = from_raw_parts(capture, n);
+    reference::last_write(capture, address, item, &mut *value, &mut *records)
+}

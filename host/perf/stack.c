@@ -63,6 +63,7 @@ enum name {
     WRITE_TEXT,
     PLAYBACK,
     SHOW,
+    LAST_WRITE,
     NAMES
 };
 
@@ -78,6 +79,7 @@ static struct measured measured[NAMES] = {
     [WRITE_TEXT] = {"vb_write_text", (void (*)(void))vb_write_text, 4, 0},
     [PLAYBACK] = {"vb_playback", (void (*)(void))vb_playback, 5, 0},
     [SHOW] = {"vb_show", (void (*)(void))vb_show, 5, 0},
+    [LAST_WRITE] = {"vb_last_write", (void (*)(void))vb_last_write, 6, 0},
 };
 
 static int32_t table[VB_TABLE_ENTRIES];
@@ -164,6 +166,14 @@ static void playback(uint64_t entries, uint64_t address, uint64_t n) {
     call(PLAYBACK, (uint64_t[WORDS]){at(table), entries, address, at(capture.bytes), n});
 }
 
+static void last_write(uint64_t address, uint64_t n) {
+    static int32_t value;
+    static uint32_t records;
+    for (uint32_t item = 0; item <= VB_TABLE_ENTRIES + 1; item++)
+        call(LAST_WRITE,
+             (uint64_t[WORDS]){at(capture.bytes), n, address, item, at(&value), at(&records)});
+}
+
 /* A capture of all requests, three times over; what is no capture; and what is not to be played. */
 static void captured(void) {
     static uint32_t place, length;
@@ -175,6 +185,9 @@ static void captured(void) {
     playback(VB_TABLE_ENTRIES, 0, capture.n);
     playback(VB_TABLE_ENTRIES - 1, ADDRESS, capture.n);
     playback(VB_TABLE_ENTRIES, ADDRESS, capture.n - 1);
+    for (uint64_t address = 0; address <= ADDRESS + 1; address++)
+        for (uint64_t n = capture.n - 1; n <= capture.n; n++)
+            last_write(address, n);
     for (uint64_t frame = 0; frame <= capture.frames + 1; frame++)
         for (uint64_t n = capture.n - 1; n <= capture.n; n++)
             call(SHOW, (uint64_t[WORDS]){at(capture.bytes), n, frame, at(&place), at(&length)});
