@@ -195,6 +195,6 @@ module _ (c : List ℕ) where
           let some = a .some in
           let few = a .few in
           let part = part-stands (stands c (a .fine) (frame - 1) (omega arith)) in
-          let short = sound c (a .fine) .short in
+          let short = sound c (a .fine) .trailer .short in
           omega arith
       by false e = omega arith

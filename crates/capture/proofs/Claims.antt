@@ -7,16 +7,16 @@ use Prim.Native.Nat.{ℕ, _-_}
 use native.Mathlib.Omega.{arith}
 use borrow.Author.Tests.{eq-eqb}
 use lib.ListN.{length, take-append-drop}
-use Rattle.capture.specs.Format.{trailerBegins, count, wellFormed, frames}
+use Rattle.capture.specs.Format.{trailerBegins, count, frames}
 use Rattle.capture.specs.Recorded.{records, placeBehind, recorded}
 use Rattle.capture.specs.Claims.{OfRecording, OfCapture}
-use Rattle.capture.proofs.Walk.{Walking, right-length, sound, begins-behind}
+use Rattle.capture.proofs.Walk.{Walking, right-length, fault-reached, sound, begins-behind}
 use Rattle.capture.proofs.ByNumber.{frames-counted, shown-part}
 use Rattle.capture.proofs.Recorded.{recorded-reads, recorded-length, recorded-place, recorded-count, recorded-last}
 use Rattle.capture.proofs.Recorded.{walk-bytes, trailer-bytes, walk-recordable}
 
 pub recording-claimed : (fs : List (List ℕ)) → OfRecording fs
-unfolding wellFormed frames
+unfolding frames
 recording-claimed fs =
     record {
       wellFormed = λ r short.
@@ -26,6 +26,7 @@ recording-claimed fs =
           let walking : Walking (recorded fs) (length fs) (length (records fs)) = record { inside = omega arith; reached = reached } in
           let begin = begins-behind _ _ _ walking ∙ ap (placeBehind (length fs - 1)) (reads .same) in
           rw (
+            fault-reached (recorded fs),
             right-length (recorded fs) (omega arith) short,
             recorded-place fs,
             recorded-count fs,
@@ -42,9 +43,9 @@ capture-claimed c =
       recordableFrames = λ fine. walk-recordable c (count c) (trailerBegins c) (sound c fine .walking);
       sameBytes = λ fine bytes.
           let s = sound c fine in
-          let last = s .last ∙ begins-behind c (count c) (trailerBegins c) (s .walking) in
+          let last = s .trailer .last ∙ begins-behind c (count c) (trailerBegins c) (s .walking) in
           rw (frames-counted c, ← last)
-          (ap₂ (λ (x y : List ℕ). x ++ y) (walk-bytes c bytes (count c) (trailerBegins c) (s .walking)) (trailer-bytes c bytes (s .long))
+          (ap₂ (λ (x y : List ℕ). x ++ y) (walk-bytes c bytes (count c) (trailerBegins c) (s .walking)) (trailer-bytes c bytes (s .trailer .long))
           ∙ take-append-drop (trailerBegins c) c);
       isPart = λ frame. shown-part c frame .same;
     }

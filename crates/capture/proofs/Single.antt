@@ -12,11 +12,17 @@ use Rattle.capture.proofs as capture
 pub begins : OneOutcome capture.begins.ended capture.begins.Reads.Asked capture.begins.Reads.Post
 begins = record { asksNothing = λ κs a. tt; single = λ κs a o u p q. single p q & refl }
 
+pub record-ends : OneOutcome capture.record_ends.ended capture.record_ends.Reads.Asked capture.record_ends.Reads.Post
+record-ends = record { asksNothing = λ κs a. tt; single = λ κs a o u p q. single p q & refl }
+
 pub trailer-begins : OneOutcome capture.trailer_begins.ended capture.trailer_begins.Reads.Asked capture.trailer_begins.Reads.Post
 trailer-begins = record { asksNothing = λ κs a. tt; single = λ κs a o u p q. single p q & refl }
 
 pub count : OneOutcome capture.count.ended capture.count.Reads.Asked capture.count.Reads.Post
 count = record { asksNothing = λ κs a. tt; single = λ κs a o u p q. single p q & refl }
+
+pub trailer-right : OneOutcome capture.trailer_right.ended capture.trailer_right.Reads.Asked capture.trailer_right.Reads.Post
+trailer-right = record { asksNothing = λ κs a. tt; single = λ κs a o u p q. single p q & refl }
 
 pub fault : OneOutcome capture.fault.ended capture.fault.Reads.Asked capture.fault.Reads.Post
 fault = record { asksNothing = λ κs a. tt; single = λ κs a o u p q. single p q & refl }

@@ -2,7 +2,7 @@
 -- frames that they have. A capture that meets no fault is walked from its trailer.
 -- Assumes nothing.
 use mathlib.Core.Path.{_≡_, refl, sym, ap, _∙_}
-use mathlib.Core.Bool.{true, _&&_}
+use mathlib.Core.Bool.{Bool, true, false, _&&_}
 use mathlib.Core.List.{List, [], _∷_, _++_, append-assoc}
 use Prim.Native.Nat.{ℕ, zero, suc, _+_, _-_, _≤_, _<_}
 use native.Mathlib.Omega.{arith}
@@ -10,12 +10,13 @@ use borrow.Author.Tests.{eqb-true, leb-true, le-leb, lt-leb}
 use lib.Dec.{eqb, leb}
 use lib.ListN.{length, getD, take, drop, length-append, length-drop}
 use lib.Seq.{length-take-le, take-at, getD-at}
-use Rattle.numbers.specs.Numbers.{none, unless}
+use Rattle.numbers.specs.Numbers.{none, unless, firstMet}
 use Rattle.numbers.proofs.Tests.{both}
-use Rattle.numbers.proofs.Order.{last-met, passed}
+use Rattle.numbers.proofs.Order.{last-met, test-held}
 use Rattle.registers.specs.Register.{highFirst}
 use Rattle.capture.specs.Format.{badCapture, longestCapture, longestFrame, sizeBytes, size, begins, recordEnds, frameBefore}
-use Rattle.capture.specs.Format.{trailerLength, trailerBegins, count, lastPlace, reaches, wellFormed, captureFault, framesTo}
+use Rattle.capture.specs.Format.{trailerLength, trailerBegins, count, lastPlace, reaches, allowedLength, trailerPoints, trailerRight}
+use Rattle.capture.specs.Format.{wellFormed, captureFault, framesTo}
 use Rattle.capture.specs.Recorded.{records, placeBehind}
 
 -- ---- one record
@@ -125,37 +126,53 @@ module _ (c : List ℕ) where
 -- ---- a capture and its fault
 
 module _ (c : List ℕ) where
-  -- its rules one by one
-  pub too-short : length c < trailerLength → captureFault c ≡ badCapture
-  unfolding captureFault
+  -- where a walk back can begin: the rules of a length one by one, and then the trailer's place
+  pub too-short : length c < trailerLength → trailerRight c ≡ false
+  unfolding trailerRight
   too-short h = rw (lt-leb trailerLength (length c) h)
 
-  pub too-long : trailerLength ≤ length c → longestCapture < length c → captureFault c ≡ badCapture
-  unfolding captureFault
+  pub too-long : trailerLength ≤ length c → longestCapture < length c → trailerRight c ≡ false
+  unfolding trailerRight
   too-long h k = rw (le-leb trailerLength (length c) h, lt-leb (length c) longestCapture k)
 
-  pub right-length : trailerLength ≤ length c → length c ≤ longestCapture → captureFault c ≡ unless (wellFormed c) badCapture
-  unfolding captureFault
-  right-length h k = rw (le-leb trailerLength (length c) h, le-leb (length c) longestCapture k) (last-met _)
+  pub right-length : trailerLength ≤ length c → length c ≤ longestCapture → trailerRight c ≡ trailerPoints c
+  unfolding trailerRight
+  right-length h k = rw (le-leb trailerLength (length c) h, le-leb (length c) longestCapture k)
 
-  -- what a capture is that meets none
-  pub record Sound : Type 0 where
+  -- what is known there
+  pub record Begun : Type 0 where
     pub long : 6 ≤ length c
     pub short : length c ≤ longestCapture
     pub last : lastPlace c ≡ begins c (trailerBegins c)
+
+  pub begun : trailerRight c ≡ true → Begun
+  unfolding trailerRight
+  begun e =
+      let b = both (allowedLength c) (trailerPoints c) e in
+      let lengths = both (leb trailerLength (length c)) (leb (length c) longestCapture) (b .0) in
+      record { long = leb-true _ _ (lengths .0); short = leb-true _ _ (lengths .1); last = eqb-true _ _ (b .1) }
+
+  -- a capture has no fault exactly when a walk back can begin and reaches place 0 after as many records as the trailer says
+  pub fault-reached : captureFault c ≡ unless (trailerRight c && reaches c (count c) (trailerBegins c)) badCapture
+  unfolding captureFault wellFormed trailerRight
+  fault-reached = by (allowedLength c) (trailerPoints c)
+    where
+      by : (allowed points : Bool)
+          → firstMet
+          (unless allowed badCapture ∷ unless (points && reaches c (count c) (trailerBegins c)) badCapture ∷ [])
+          ≡ unless ((allowed && points) && reaches c (count c) (trailerBegins c)) badCapture
+      by true points = last-met _
+      by false points = refl
+
+  -- what a capture is that meets none
+  pub record Sound : Type 0 where
+    pub right : trailerRight c ≡ true
+    pub trailer : Begun
     pub walking : Walking c (count c) (trailerBegins c)
 
   pub sound : captureFault c ≡ none → Sound
-  unfolding captureFault wellFormed trailerBegins
+  unfolding trailerBegins
   sound e =
-      let lengths = leb trailerLength (length c) && leb (length c) longestCapture in
-      let l = passed lengths badCapture _ (omega arith) e in
-      let w = passed (wellFormed c) badCapture _ (omega arith) (l .1) .0 in
-      let f = both (eqb (lastPlace c) (begins c (trailerBegins c))) (reaches c (count c) (trailerBegins c)) w in
-      let lengths-held = both (leb trailerLength (length c)) (leb (length c) longestCapture) (l .0) in
-      record {
-        long = leb-true _ _ (lengths-held .0);
-        short = leb-true _ _ (lengths-held .1);
-        last = eqb-true _ _ (f .0);
-        walking = record { inside = omega arith; reached = f .1 };
-      }
+      let held = test-held (trailerRight c && reaches c (count c) (trailerBegins c)) badCapture (omega arith) (sym fault-reached ∙ e) in
+      let b = both (trailerRight c) (reaches c (count c) (trailerBegins c)) held in
+      record { right = b .0; trailer = begun (b .0); walking = record { inside = omega arith; reached = b .1 } }

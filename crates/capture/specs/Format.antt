@@ -75,18 +75,26 @@ abbrev pub reaches : List ℕ → ℕ → ℕ → Bool
 reaches c zero end = eqb end 0
 reaches c (suc n) end = recordEnds c end && reaches c n (begins c end)
 
--- the last record begins at the place that the trailer says, and the walk from the trailer reaches place 0 after exactly as many
--- records as it says. In six bytes with none the place is 0, which is where a record that ends at place 0 would begin.
+-- it has as many bytes as a capture can have
+abbrev pub allowedLength : List ℕ → Bool
+allowedLength c = leb trailerLength (length c) && leb (length c) longestCapture
+
+-- the last record begins at the place that the trailer says. In six bytes with none the place is 0, which is where a record that ends at
+-- place 0 would begin.
+abbrev pub trailerPoints : List ℕ → Bool
+trailerPoints c = eqb (lastPlace c) (begins c (trailerBegins c))
+
+-- both, so that a walk back can begin
+unfoldable pub trailerRight : List ℕ → Bool
+trailerRight c = allowedLength c && trailerPoints c
+
+-- the trailer points to the last record, and the walk from the trailer reaches place 0 after exactly as many records as it says
 unfoldable pub wellFormed : List ℕ → Bool
-wellFormed c = eqb (lastPlace c) (begins c (trailerBegins c)) && reaches c (count c) (trailerBegins c)
+wellFormed c = trailerPoints c && reaches c (count c) (trailerBegins c)
 
 -- the fault of a capture: its length, or that it is not well formed
 unfoldable pub captureFault : List ℕ → ℕ
-captureFault c =
-    firstMet
-    (unless (leb trailerLength (length c) && leb (length c) longestCapture) badCapture
-    ∷ unless (wellFormed c) badCapture
-    ∷ [])
+captureFault c = firstMet (unless (allowedLength c) badCapture ∷ unless (wellFormed c) badCapture ∷ [])
 
 -- ---- its frames, from the front
 

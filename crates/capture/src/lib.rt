@@ -5,7 +5,7 @@ ghost use Prim.Native.Nat.{_+_, _-_, _≤_, _<_};
 ghost use lib.ListN.{length, take};
 ghost use Rattle.numbers.specs.Numbers.{none};
 ghost use Rattle.capture.specs.Format.{twoAt, size, begins, recordEnds, frameBefore, PartOf, trailerBegins, count, lastPlace};
-ghost use Rattle.capture.specs.Format.{reaches, captureFault, frames};
+ghost use Rattle.capture.specs.Format.{reaches, trailerRight, captureFault, frames};
 ghost use Rattle.capture.specs.Recorded.{placeBehind};
 ghost use Rattle.capture.specs.Show.{shownFrame, shownPlace, Shows};
 use numbers::NONE;
@@ -68,7 +68,7 @@ pub fn begins(capture: &[u8], end: usize) -> usize
 }
 
 // Whether a record ends there.
-fn record_ends(capture: &[u8], end: usize) -> bool
+pub fn record_ends(capture: &[u8], end: usize) -> bool
     ensures { λ r. ⌜ r ≡ recordEnds (now (capture .entry)) end ⌝ }
 {
     let size = size(capture, end);
@@ -136,15 +136,21 @@ fn reaches(capture: &[u8], records: usize, place: usize) -> bool
     end == 0
 }
 
+// Whether a walk back can begin: the length is allowed, and the trailer says where the last record begins.
+pub fn trailer_right(capture: &[u8]) -> bool
+    ensures { λ r. ⌜ r ≡ trailerRight (now (capture .entry)) ⌝ }
+{
+    if capture.len() < TRAILER_LENGTH || LONGEST_CAPTURE < capture.len() {
+        return false;
+    }
+    last_place(capture) == begins(capture, trailer_begins(capture))
+}
+
 // The fault of a capture: BAD_CAPTURE, or NONE.
 pub fn fault(capture: &[u8]) -> u8
     ensures { λ r. ⌜ r ≡ captureFault (now (capture .entry)) ⌝ }
 {
-    if capture.len() < TRAILER_LENGTH || LONGEST_CAPTURE < capture.len() {
-        return BAD_CAPTURE;
-    }
-    let place = trailer_begins(capture);
-    if last_place(capture) == begins(capture, place) && reaches(capture, count(capture), place) {
+    if trailer_right(capture) && reaches(capture, count(capture), trailer_begins(capture)) {
         NONE
     } else {
         BAD_CAPTURE

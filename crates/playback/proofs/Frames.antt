@@ -12,6 +12,7 @@ use lib.IntN.{ℤ, pos}
 use lib.ListN.{length}
 use lib.Seq.{length-sets, ext-getD}
 use Rattle.numbers.specs.Numbers.{none, leastBuffer}
+use Rattle.numbers.proofs.Tests.{both}
 use Rattle.items.specs.ItemList.{items}
 use Rattle.table.specs.Table.{goodTable, tableFault, startValues, entry}
 use Rattle.table.proofs.Laws.{good-start, good-length}
@@ -25,27 +26,40 @@ use Rattle.modbus.specs.Rules.{acted}
 use Rattle.settings.specs.Settings.{writesOf, acceptsWrite}
 use Rattle.settings.proofs.Accepted.{accepted-stores, others-leave}
 use Rattle.rtu.specs.Frame.{Call, isAddress, callFault, frameFault, actedOn}
-use Rattle.rtu.proofs.Refusals.{is-fine, no-fault, refused-frame}
+use Rattle.rtu.proofs.Refusals.{is-fine, no-fault, frame-has-body, refused-frame}
 use Rattle.rtu.proofs.Replies.{acted-refused, acted-answered}
 use Rattle.rtu.proofs.Demands.{frame-good}
 use Rattle.playback.specs.Playback.{after, handedOver}
-use Rattle.playback.specs.Settling.{wrote, lastWrite, LastWrites}
+use Rattle.playback.specs.Written.{acceptsFrame, wrote, lastWrite}
+use Rattle.playback.specs.Settling.{LastWrites}
 
 -- ---- what a frame writes
 
-module _ (address : ℕ) (frame : List ℕ) (i : ℕ) where
-  pub refused-writes : (frameFault frame ≡ none → ⊥) → wrote address frame i ≡ Nothing
-  unfolding wrote
-  refused-writes f = rw (ne-eqb (frameFault frame) none f)
+module _ (address : ℕ) (frame : List ℕ) where
+  -- a frame with a fault is not accepted, and of one with none the message decides
+  pub not-accepted : (frameFault frame ≡ none → ⊥) → acceptsFrame address frame ≡ false
+  unfolding acceptsFrame
+  not-accepted f = rw (ne-eqb (frameFault frame) none f)
 
-  module _ (right : frameFault frame ≡ none) where
-    pub other-writes : acceptsWrite address (bodyOf frame) ≡ false → wrote address frame i ≡ Nothing
-    unfolding wrote
-    other-writes a = rw (eq-eqb (frameFault frame) none right, a)
+  pub by-message : frameFault frame ≡ none → acceptsFrame address frame ≡ acceptsWrite address (bodyOf frame)
+  unfolding acceptsFrame
+  by-message right = rw (eq-eqb (frameFault frame) none right)
 
-    pub accepted-writes : acceptsWrite address (bodyOf frame) ≡ true → wrote address frame i ≡ given (writesOf (bodyOf frame)) i
+  -- so one that is accepted has a body
+  pub accepted-body : acceptsFrame address frame ≡ true → 4 ≤ length frame
+  unfolding acceptsFrame
+  accepted-body a =
+      let right = both (eqb (frameFault frame) none) (acceptsWrite address (bodyOf frame)) a .0 in
+      frame-has-body frame (eqb-true (frameFault frame) none right)
+
+  module _ (i : ℕ) where
+    pub other-writes : acceptsFrame address frame ≡ false → wrote address frame i ≡ Nothing
     unfolding wrote
-    accepted-writes a = rw (eq-eqb (frameFault frame) none right, a)
+    other-writes a = rw a
+
+    pub accepted-writes : acceptsFrame address frame ≡ true → wrote address frame i ≡ given (writesOf (bodyOf frame)) i
+    unfolding wrote
+    accepted-writes a = rw a
 
 -- ---- one frame
 
@@ -85,16 +99,16 @@ module _ (call : Call) (fine : callFault call ≡ none) (frame : List ℕ) where
       by false accepted r a =
           let wrong = eqb-false (frameFault frame) none r in
           ap (λ (t : List ℤ). entry t i) (met wrong)
-          ∙ ap (over (entry (call .table) i)) (sym (refused-writes (call .address) frame i wrong))
+          ∙ ap (over (entry (call .table) i)) (sym (other-writes (call .address) frame i (not-accepted (call .address) frame wrong)))
       by true false r a =
           let right = eqb-true (frameFault frame) none r in
           ap (λ (t : List ℤ). entry t i) (obeyed right ∙ others-leave (call .table) (call .address) (bodyOf frame) a)
-          ∙ ap (over (entry (call .table) i)) (sym (other-writes (call .address) frame i right a))
+          ∙ ap (over (entry (call .table) i)) (sym (other-writes (call .address) frame i (by-message (call .address) frame right ∙ a)))
       by true true r a =
           let right = eqb-true (frameFault frame) none r in
           ap (λ (t : List ℤ). entry t i) (obeyed right ∙ accepted-stores (call .table) (call .address) (bodyOf frame) a)
           ∙ all-given (call .table) (writesOf (bodyOf frame)) i (omega (arith, good-length (call .table) good))
-          ∙ ap (over (entry (call .table) i)) (sym (accepted-writes (call .address) frame i right a))
+          ∙ ap (over (entry (call .table) i)) (sym (accepted-writes (call .address) frame i (by-message (call .address) frame right ∙ a)))
 
 -- ---- frames one after the other
 

@@ -18,7 +18,8 @@ use Rattle.writes.specs.declared.Given.the-variants.{Value, Nothing}
 use Rattle.writes.specs.Writes.{later, over}
 use Rattle.writes.proofs.Stored.{later-none, later-assoc}
 use Rattle.capture.specs.Format.{begins, frameBefore, trailerBegins, count, framesTo, frames}
-use Rattle.playback.specs.Settling.{wrote, lastWrite, known, InStep, only, Settles, LastWrites}
+use Rattle.playback.specs.Written.{wrote, lastWrite}
+use Rattle.playback.specs.Settling.{known, InStep, only, Settles, LastWrites}
 use Rattle.playback.proofs.Frames.{last-one-more}
 
 -- ---- what is known of an item

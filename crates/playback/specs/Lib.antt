@@ -1,3 +1,4 @@
 pub mod Playback
+pub mod Written
 pub mod Settling
 pub mod Claims

@@ -3,30 +3,17 @@
 -- proved.
 use Prim.Native.Nat.{ℕ, _<_}
 use mathlib.Core.Path.{_≡_}
-use mathlib.Core.Bool.{Bool, false, cond, _&&_}
-use mathlib.Core.List.{List, [], _∷_}
+use mathlib.Core.Bool.{Bool, false, cond}
+use mathlib.Core.List.{List}
 use lib.Dec.{eqb}
 use lib.IntN.{ℤ}
 use lib.ListN.{length, getD}
-use Rattle.numbers.specs.Numbers.{none}
 use Rattle.items.specs.ItemList.{items}
 use Rattle.table.specs.Table.{entry}
-use Rattle.crc.specs.Crc.{bodyOf}
 use Rattle.writes.specs.declared.Given.{Given}
 use Rattle.writes.specs.declared.Given.the-variants.{Value, Nothing}
-use Rattle.writes.specs.Writes.{given, later, over}
-use Rattle.settings.specs.Settings.{writesOf, acceptsWrite}
-use Rattle.rtu.specs.Frame.{frameFault}
-
--- what a frame writes to the item at a place, for a device with this address
-unfoldable pub wrote : ℕ → List ℕ → ℕ → Given
-wrote address frame i =
-    cond (eqb (frameFault frame) none && acceptsWrite address (bodyOf frame)) (given (writesOf (bodyOf frame)) i) Nothing
-
--- what the last of frames writes to it that writes to it at all
-abbrev pub lastWrite : ℕ → List (List ℕ) → ℕ → Given
-lastWrite address [] i = Nothing
-lastWrite address (f ∷ fs) i = later (lastWrite address fs i) (wrote address f i)
+use Rattle.writes.specs.Writes.{later, over}
+use Rattle.playback.specs.Written.{lastWrite}
 
 -- what an item is known to end with: its entry where it is settled, else nothing
 unfoldable pub known : List ℤ → List Bool → ℕ → Given

@@ -9,7 +9,8 @@ ghost use Rattle.writes.specs.Writes.{given};
 ghost use Rattle.settings.specs.Settings.{writesOf};
 ghost use Rattle.capture.specs.Format.{frames};
 ghost use Rattle.playback.specs.Playback.{playNumber, played};
-ghost use Rattle.playback.specs.Settling.{wrote, InStep, only, Settles, LastWrites};
+ghost use Rattle.playback.specs.Written.{acceptsFrame, wrote};
+ghost use Rattle.playback.specs.Settling.{InStep, only, Settles, LastWrites};
 use numbers::BAD_SETTING;
 use numbers::NONE;
 use table::WRONG_LENGTH;
@@ -27,6 +28,33 @@ fn play_fault(table: &[i32], address: u8, capture: &[u8]) -> u8
     }
     capture::fault(capture)
 }
+
+// ---- what a frame writes
+
+// Whether a frame is a write that the rules accept, for a device with this address.
+fn accepts_frame(address: u8, frame: &[u8]) -> bool
+    ensures { λ r. ⌜ r ≡ acceptsFrame address (now (frame .entry)) ⌝ }
+{
+    if rtu::frame_fault(frame) != NONE {
+        return false;
+    }
+    let n = frame.len() - 2;
+    settings::accepts_write(address, &frame[..n])
+}
+
+// What a frame writes to an item.
+pub fn wrote(address: u8, frame: &[u8], item: usize) -> Given
+    ensures { λ r. ⌜ r ≡ wrote address (now (frame .entry)) item ⌝ }
+{
+    if accepts_frame(address, frame) {
+        let n = frame.len() - 2;
+        settings::given_by(&frame[..n], item)
+    } else {
+        Given::Nothing
+    }
+}
+
+// ---- the walk back
 
 // An item that is not settled yet is settled where a message gives it a value.
 fn settle_item(table: &mut [i32], settled: &mut [bool], body: &[u8], i: usize)
@@ -57,22 +85,19 @@ fn settle_each(table: &mut [i32], settled: &mut [bool], body: &[u8])
     }
 }
 
-// Items are settled by what a frame writes. One that is refused, or is no write that the rules accept, settles none.
+// Items are settled by what a frame writes. One that is no write that the rules accept settles none.
 fn settle(table: &mut [i32], settled: &mut [bool], address: u8, frame: &[u8])
     requires { ⌜ InStep (now table) (now settled) ⌝ }
     ensures { λ _. ⌜ Settles (wrote address (now (frame .entry)))
         (now (table .entry)) (now (settled .entry)) (now (table .exit)) (now (settled .exit)) ⌝ }
 {
-    if rtu::frame_fault(frame) != NONE {
-        return;
-    }
-    let n = frame.len() - 2;
-    if settings::accepts_write(address, &frame[..n]) {
+    if accepts_frame(address, frame) {
+        let n = frame.len() - 2;
         settle_each(table, settled, &frame[..n]);
     }
 }
 
-// The walk back, from the trailer to place 0.
+// All items, from the trailer to place 0.
 fn settle_all(table: &mut [i32], address: u8, capture: &[u8])
     requires { ⌜ length (now table) ≡ items ⌝ }
     ensures { λ _. ⌜ LastWrites address (frames (now (capture .entry))) (now (table .entry)) (now (table .exit)) ⌝ }

@@ -1,75 +1,52 @@
--- `capture::fault` meets its contract: each way out is one of the rules of a capture. Assumes nothing.
+-- `capture::fault` meets its contract: a walk back can begin and reaches place 0, or one of the two fails. Assumes nothing.
 use mathlib.Core.Path.{_≡_, sym, _∙_}
 use mathlib.Core.Logic.{⊎-elim}
-use mathlib.Core.Bool.{_&&_}
-use native.Mathlib.Omega.{arith}
-use borrow.Author.Tests.{ltb-true, ltb-false, eq-eqb, ne-eqb}
-use lib.Dec.{eqb}
-use Rattle.numbers.specs.Numbers.{unless}
-use Rattle.capture.specs.Format.{badCapture, count, reaches, wellFormed, captureFault}
-use Rattle.capture.proofs.Walk.{too-short, too-long, right-length}
+use Rattle.capture.proofs.Walk.{fault-reached}
 use borrow.Author.Needs.{needs}
 use Rattle.capture.proofs.fault.Statement.{statement}
 use Rattle.capture.proofs.fault.Tie as tie
 
-returns : tie.Need-returns
-returns c =
-    let capture = c .before .before .args .capture .now in
-    ⊎-elim (λ w. sym (too-short capture (omega (arith, ltb-true))))
-    (λ w. sym (too-long capture (omega (arith, ltb-false)) (omega (arith, ltb-true))))
-    (c .if1 .came)
-
-trailer-begins-requires : tie.Need-trailer-begins-requires
-trailer-begins-requires c κs = search needs
-
-last-place-requires : tie.Need-last-place-requires
-last-place-requires c κs = search needs
-
-begins-requires : tie.Need-begins-requires
-begins-requires c κs = search needs
+trailer-right-requires : tie.Need-trailer-right-requires
+trailer-right-requires c κs = search needs
 
 count-requires : tie.Need-count-requires
 count-requires c κs = search needs
 
+trailer-begins-requires : tie.Need-trailer-begins-requires
+trailer-begins-requires c κs = search needs
+
 reaches-requires : tie.Need-reaches-requires
 reaches-requires c κs = search needs
 
--- what the rules give of a capture whose length is right
-judged : (c : tie.After-begins) →
-    let s = c .before .before .before .before .before .before .args .capture .now in
-    let place = c .before .before .trailer-begins .result in
-    captureFault s ≡ unless (eqb (c .before .last-place .result) (c .begins .result) && reaches s (count s) place) badCapture
-unfolding wellFormed
-judged c =
-    let capture = c .before .before .before .before .before .before .args .capture .now in
-    rw (c .begins .ensures, c .before .last-place .ensures, c .before .before .trailer-begins .ensures)
-    (right-length capture (omega (arith, ltb-false)) (omega (arith, ltb-false)))
+returns : tie.Need-returns
+returns c =
+    let r = c .before in
+    let n = r .before .before in
+    let t = n .before .before in
+    let capture = t .before .before .args .capture .now in
+    let begun = sym (t .trailer-right .ensures) ∙ n .before .if1 .taken in
+    let reached = sym (rw (n .count .ensures, r .before .trailer-begins .ensures) at (r .reaches .ensures)) ∙ c .if2 .taken in
+    sym (rw (begun, reached) at (fault-reached capture))
 
 returns-2 : tie.Need-returns-2
 returns-2 c =
-    let r = c .before in
-    let b = r .before .before .before in
-    let reached = sym (rw (r .before .count .ensures) at (r .reaches .ensures)) ∙ c .if4 .taken in
-    sym (rw (eq-eqb _ _ (r .before .before .if3 .taken), reached) at (judged b))
-
-returns-3 : tie.Need-returns-3
-returns-3 c =
+    let t = c .before in
+    let capture = t .before .before .args .capture .now in
     ⊎-elim
     (λ w.
-    let reached = sym (rw (w .1 .ensures) at (w .2 .ensures)) ∙ w .3 .left in
-    sym (rw (eq-eqb _ _ (w .0 .taken), reached) at (judged (c .before))))
-    (λ w. sym (rw (ne-eqb _ _ (w .left)) at (judged (c .before))))
-    (c .if3 .came)
+    let begun = sym (t .trailer-right .ensures) ∙ w .0 .taken in
+    let reached = sym (rw (w .1 .ensures, w .2 .ensures) at (w .3 .ensures)) ∙ w .4 .left in
+    sym (rw (begun, reached) at (fault-reached capture)))
+    (λ w. sym (rw (sym (t .trailer-right .ensures) ∙ w .left) at (fault-reached capture)))
+    (c .if1 .came)
 
 pub fault-spec : {M : Type 1} → statement M
 fault-spec =
     tie.close
     (tie.spec
-    returns
-    trailer-begins-requires
-    last-place-requires
-    begins-requires
+    trailer-right-requires
     count-requires
+    trailer-begins-requires
     reaches-requires
-    returns-2
-    returns-3)
+    returns
+    returns-2)
