@@ -30,9 +30,9 @@ struct repeated {
 
 enum { PARTS = 2 };
 
-/* The most frames that there is room for, half as many, and the most writes; then one write, behind
- * others in 100 bytes and in as many as there can be, and in front of these and of half of them. */
-static const struct made {
+/* The most frames that there is room for, half as many, and the most writes; then one write behind
+ * other frames, in 100 bytes and in 65,536, and one in front of them and of half of them. */
+static const struct {
     const char *name;
     struct repeated parts[PARTS];
 } captures[] = {
