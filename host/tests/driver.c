@@ -28,11 +28,13 @@ enum function {
     READ_TEXT,
     WRITE_TEXT,
     PLAYBACK,
-    SHOW
+    SHOW,
+    LAST_WRITE
 };
 
-/* The lent arrays. The table's place also holds the value that a reading of text sets, or the place
- * and the length that a showing sets; the input is a frame, number text or a capture. */
+/* The lent arrays. The table's place also holds the value that a reading of text sets, the place
+ * and the length that a showing sets, or the value and the records that a last write sets; the
+ * input is a frame, number text or a capture. */
 enum array { STATE, TABLE, REPLY, INPUT, ARRAYS };
 
 /* What a function does not take means nothing. */
@@ -74,8 +76,10 @@ static uint32_t call(const struct request *r) {
         return vb_write_text(r->decimals, r->value, input, in);
     case PLAYBACK:
         return vb_playback(table, tn, r->address, input, in);
-    default:
+    case SHOW:
         return vb_show(input, in, r->frame, (uint32_t *)table, (uint32_t *)table + 1);
+    default:
+        return vb_last_write(input, in, r->address, r->item, table, (uint32_t *)table + 1);
     }
 }
 

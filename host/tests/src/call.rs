@@ -15,6 +15,7 @@ pub enum Function {
     WriteText,
     Playback,
     Show,
+    LastWrite,
 }
 
 impl Function {
@@ -31,6 +32,7 @@ impl Function {
             Function::WriteText => "vb_write_text",
             Function::Playback => "vb_playback",
             Function::Show => "vb_show",
+            Function::LastWrite => "vb_last_write",
         }
     }
 }
@@ -50,7 +52,7 @@ pub struct Call {
     pub value: i32,
     pub state: Vec<u8>,
     /// The item values; for a reading of text the one value that it sets, for a showing the place
-    /// and the length.
+    /// and the length, for a last write the value and the records.
     pub table: Vec<i32>,
     pub reply: Vec<u8>,
     /// A frame, number text, or a capture.
@@ -114,6 +116,7 @@ impl Call {
             Function::WriteText => reference::write_text(self.decimals, self.value, input),
             Function::Playback => reference::playback(table, self.address, input),
             Function::Show => reference::show_in(table, input, self.frame),
+            Function::LastWrite => reference::last_write_in(table, input, self.address, self.item),
         }
     }
 
@@ -170,7 +173,11 @@ impl Call {
     pub fn shown(&self, answer: &[u8]) -> String {
         let (result, mut rest) = answer.split_at(4);
         let result = u32::from_le_bytes([result[0], result[1], result[2], result[3]]);
-        let mut lines = format!("number {}, reply length {}", result % 256, result / 256);
+        let beside = match self.function {
+            Function::LastWrite => "found",
+            _ => "reply length",
+        };
+        let mut lines = format!("number {}, {beside} {}", result % 256, result / 256);
         for (name, array) in ARRAYS.iter().zip(self.lent()) {
             let (guarded, behind) = rest.split_at(GUARD.len() + array.len() + GUARD.len());
             let (front, inner) = guarded.split_at(GUARD.len());

@@ -37,9 +37,11 @@ pub struct Compare {
     /// Calls whose outcomes were found the same.
     calls: u64,
     /// How often each number was given back by each function.
-    counts: [[u64; 256]; 10],
+    counts: [[u64; 256]; 11],
     /// The same for frames, by the Modbus function that they ask for.
     asked: Vec<[u64; 256]>,
+    /// How often a last write was found.
+    found: u64,
 }
 
 impl Compare {
@@ -51,8 +53,9 @@ impl Compare {
             filling: Batch::default(),
             running: Batch::default(),
             calls: 0,
-            counts: [[0; 256]; 10],
+            counts: [[0; 256]; 11],
             asked: vec![[0; 256]; 256],
+            found: 0,
         })
     }
 
@@ -65,7 +68,7 @@ impl Compare {
         let result = call.by_reference();
         call.answer(result, &mut batch.answers);
         batch.ends.push(batch.answers.len());
-        self.counted(call, (result % 256) as usize);
+        self.counted(call, result);
         if self.filling.requests.len() >= BATCH_BYTES {
             self.turn()?;
         }
@@ -82,10 +85,14 @@ impl Compare {
         self.calls
     }
 
-    fn counted(&mut self, call: &Call, number: usize) {
+    fn counted(&mut self, call: &Call, result: u32) {
+        let number = (result % 256) as usize;
         self.counts[call.function as usize][number] += 1;
         if let (Function::Rtu, Some(asked)) = (call.function, call.input.get(1)) {
             self.asked[usize::from(*asked)][number] += 1;
+        }
+        if call.function == Function::LastWrite && result >= 256 {
+            self.found += 1;
         }
     }
 
@@ -97,6 +104,11 @@ impl Compare {
     /// How often each number was given back to frames that ask for a Modbus function.
     pub fn counts_asked(&self, function: u8) -> &[u64; 256] {
         &self.asked[usize::from(function)]
+    }
+
+    /// How often a last write was found.
+    pub fn found(&self) -> u64 {
+        self.found
     }
 
     /// Takes in the answers to the running batch and hands over the filled one.

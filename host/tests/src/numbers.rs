@@ -1,5 +1,6 @@
 //! The numbers given back in a run: for each function those that the header lists, and no other; and
-//! likewise for each Modbus function that a frame can ask for.
+//! likewise for each Modbus function that a frame can ask for. A last write must have been found, and
+//! not found.
 
 use crate::call::Function;
 use crate::compare::Compare;
@@ -8,7 +9,7 @@ use crate::failure::{Checked, Failure};
 /// The numbers that each function can give back. Number 46 of the specification, for an item whose
 /// value does not fit six characters, is none of them: a table with a value outside an item's range
 /// is refused before, and every value inside fits.
-const GIVEN: [(Function, &[usize]); 10] = [
+const GIVEN: [(Function, &[usize]); 11] = [
     (Function::StartTable, &[0, 1]),
     (Function::StartLink, &[0, 5]),
     (
@@ -24,6 +25,7 @@ const GIVEN: [(Function, &[usize]); 10] = [
     (Function::WriteText, &[0, 3, 8, 9]),
     (Function::Playback, &[0, 1, 4, 51]),
     (Function::Show, &[0, 51, 52]),
+    (Function::LastWrite, &[0, 4, 6, 51]),
 ];
 
 /// The numbers that a frame can give back by the Modbus function that it asks for.
@@ -42,7 +44,20 @@ pub fn reached(compare: &Compare) -> Checked<()> {
         let name = format!("{} asked for {function:02X}H", Function::Rtu.name());
         all_and_no_other(&name, compare.counts_asked(function), given)?;
     }
-    Ok(())
+    found_and_not(compare)
+}
+
+/// Where a last write gives 0, its item was written or it was not.
+fn found_and_not(compare: &Compare) -> Checked<()> {
+    let name = Function::LastWrite.name();
+    let found = compare.found();
+    let not = compare.counts(Function::LastWrite)[0] - found;
+    println!("{name} found {found}, and {not} never written");
+    if found > 0 && not > 0 {
+        return Ok(());
+    }
+    let why = format!("{name} found {found} and did not find {not}");
+    Err(Failure::wrong(why))
 }
 
 fn all_and_no_other(name: &str, counts: &[u64; 256], given: &[usize]) -> Checked<()> {

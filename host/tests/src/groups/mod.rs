@@ -5,6 +5,7 @@ mod captures;
 mod damage;
 mod frames;
 mod idle;
+mod last_write;
 mod limits;
 mod modbus_sessions;
 mod noise;
@@ -38,6 +39,7 @@ const GROUPS: &[(&str, Calls)] = &[
     ("order of a writing's refusals", order::written),
     ("order of a playback's refusals", order::playback),
     ("order of a showing's refusals", order::show),
+    ("order of a last write's refusals", order::last_write),
     ("every byte in every phase", phases::every_byte),
     ("every digit of every address", phases::digits),
     ("entries beside their range", limits::entries),
@@ -68,6 +70,20 @@ const GROUPS: &[(&str, Calls)] = &[
     ("captures at every address", captures::addresses),
     ("captured writes over each other", captures::overwritten),
     ("the largest captures", captures::largest),
+    ("items asked for a last write", last_write::item_numbers),
+    ("addresses asked for a last write", last_write::addresses),
+    ("frames that all but write an item", last_write::near),
+    ("spans that write an item", last_write::spans),
+    ("every value written last", last_write::values),
+    ("small captures beside a write", last_write::small),
+    ("counts behind a last write", last_write::counts),
+    ("places before a last write", last_write::places),
+    ("lengths before a last write", last_write::lengths),
+    ("last writes with a byte wrong", last_write::damaged),
+    ("anything in front of a last write", last_write::fronts),
+    ("captures cut off in front", last_write::cut),
+    ("last writes in all sizes", last_write::sizes),
+    ("last writes in the largest captures", last_write::largest),
     ("edges of number text written", number_text::edges_written),
     ("characters of number text read", number_text::characters),
     ("number text read", number_text::read),
@@ -86,6 +102,8 @@ const GROUPS: &[(&str, Calls)] = &[
     ("sessions on the Modbus line", modbus_sessions::whole),
     ("sessions played back", captures::sessions),
     ("any capture", captures::any),
+    ("sessions asked for last writes", last_write::sessions),
+    ("any capture asked for a last write", last_write::any),
     ("faults of the caller, together", limits::together),
     ("noise in every argument", noise::anything),
     ("noise with a good table", noise::well_lent),

@@ -7,7 +7,7 @@ use crate::shapes::{bad_state, good_table};
 use reference::modbus::with_crc;
 
 /// Anything at all, in arrays of any length. A reading of text has room for its value, a showing for
-/// place and length.
+/// place and length, a last write for value and records.
 pub fn anything(compare: &mut Compare, random: &mut Random) -> Checked<()> {
     let functions = [
         Function::StartTable,
@@ -20,6 +20,7 @@ pub fn anything(compare: &mut Compare, random: &mut Random) -> Checked<()> {
         Function::WriteText,
         Function::Playback,
         Function::Show,
+        Function::LastWrite,
     ];
     for _ in 0..40_000 {
         let entries = 2 + random.below(30);
@@ -52,6 +53,7 @@ pub fn well_lent(compare: &mut Compare, random: &mut Random) -> Checked<()> {
         Function::Put,
         Function::Playback,
         Function::Show,
+        Function::LastWrite,
     ];
     for _ in 0..120_000 {
         let address = random.between(1, 99) as u8;
@@ -70,7 +72,9 @@ pub fn well_lent(compare: &mut Compare, random: &mut Random) -> Checked<()> {
             table: good_table(random),
             reply: random.bytes(length),
             input: match function {
-                Function::Playback | Function::Show => captures::any_capture(random),
+                Function::Playback | Function::Show | Function::LastWrite => {
+                    captures::any_capture(random)
+                }
                 _ => frame(random, address),
             },
             ..Call::new(function)

@@ -7,21 +7,23 @@ use crate::random::Random;
 
 /// Up to six bytes of records, each from 0 to 3, with every trailer that could point into them.
 pub fn small(compare: &mut Compare, random: &mut Random) -> Checked<()> {
-    for length in 0..=6 {
-        for bits in 0..1_usize << (2 * length) {
-            let records: Vec<u8> = (0..length).map(|at| (bits >> (2 * at) & 3) as u8).collect();
-            for (count, place) in (0..4).flat_map(|count| (0..8).map(move |place| (count, place))) {
-                let records = records.clone();
-                let parts = Parts {
-                    records,
-                    count,
-                    place,
-                };
-                tried(compare, random, parts.capture())?;
-            }
-        }
+    for parts in small_parts(6) {
+        tried(compare, random, parts.capture())?;
     }
     Ok(())
+}
+
+/// Records of up to so many bytes, each from 0 to 3, with every trailer that could point into them.
+pub fn small_parts(most: usize) -> impl Iterator<Item = Parts> {
+    let sets = (0..=most).flat_map(|length| (0..1 << (2 * length)).map(move |bits| (length, bits)));
+    sets.flat_map(|(length, bits)| {
+        let records: Vec<u8> = (0..length).map(|at| (bits >> (2 * at) & 3) as u8).collect();
+        (0..32).map(move |trailer| Parts {
+            records: records.clone(),
+            count: trailer / 8,
+            place: u32::from(trailer % 8),
+        })
+    })
 }
 
 /// Captures of any frames, many of them with something that has happened to them, and noise.

@@ -8,7 +8,7 @@ use crate::groups::{gives, several};
 use crate::random::Random;
 
 /// The most bytes that records can fill, and the most records that can fill them.
-const ROOM: usize = 65_530;
+pub const ROOM: usize = 65_530;
 const MOST: usize = ROOM / 3;
 
 /// As many frames of one byte as there can be, and more; then sessions and frames of any length
@@ -24,7 +24,7 @@ pub fn largest(compare: &mut Compare, random: &mut Random) -> Checked<()> {
     }
     numbers(compare, random)?;
     for _ in 0..60 {
-        let frames = session(random);
+        let frames = full_session(random);
         due(compare, random, &Parts::of(&frames), true)?;
         wrong(compare, random, &frames)?;
         let frames = filling(random, ROOM);
@@ -49,7 +49,7 @@ fn numbers(compare: &mut Compare, random: &mut Random) -> Checked<()> {
 }
 
 /// Frames for address 1 that fill all room: first a write that is accepted, then anything.
-fn session(random: &mut Random) -> Vec<Vec<u8>> {
+pub fn full_session(random: &mut Random) -> Vec<Vec<u8>> {
     let mut frames = vec![several::accepted(random, 1)];
     let mut filled = frames[0].len() + 2;
     // The longest record has 258 bytes, and what is left behind it can be filled.

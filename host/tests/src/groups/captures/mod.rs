@@ -11,15 +11,15 @@ mod sessions;
 mod shown;
 mod trailers;
 
-pub use any::{any, any_capture, small};
+pub use any::{any, any_capture, small, small_parts};
 pub use damaged::damaged;
-pub use largest::largest;
-pub use parts::{good, Parts};
+pub use largest::{full_session, largest, ROOM};
+pub use parts::{filling, good, Parts};
 pub use played::{addresses, lent, overwritten};
 pub use records::{lengths, sizes};
 pub use sessions::{any_frame, sessions};
 pub use shown::shown;
-pub use trailers::trailers;
+pub use trailers::{near_counts, near_places, trailers};
 
 use super::gives;
 use crate::call::{Call, Function};

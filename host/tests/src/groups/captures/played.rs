@@ -35,14 +35,10 @@ pub fn overwritten(compare: &mut Compare, random: &mut Random) -> Checked<()> {
     Ok(())
 }
 
-/// A write of a span, by either function where it is one register.
+/// A write of a span.
 fn written(random: &mut Random, (start, quantity): (u16, usize)) -> Vec<u8> {
     let values = several::good(random, start, quantity);
-    if quantity == 1 && random.one_in(2) {
-        words(1, 0x06, start, values[0])
-    } else {
-        several::right(1, start, &values)
-    }
+    several::by_either(random, 1, start, &values)
 }
 
 /// Frames that leave the table: of one byte and of 256, a read, a loopback, one for another address

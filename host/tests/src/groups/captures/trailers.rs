@@ -20,14 +20,18 @@ pub fn trailers(compare: &mut Compare, random: &mut Random) -> Checked<()> {
 }
 
 /// Counts that are off by little, by 256 or by a bit, or have the low byte first.
-fn counts(compare: &mut Compare, random: &mut Random, parts: &Parts) -> Checked<()> {
-    let right = parts.count;
+pub fn near_counts(right: u16) -> impl Iterator<Item = u16> {
     let off = [1, 2, 3, 255, 256, 257];
     let beside = off.map(|off| right.wrapping_add(off));
     let below = off.map(|off| right.wrapping_sub(off));
-    let flipped = (0..16).map(|bit| right ^ 1 << bit);
+    let flipped = (0..16).map(move |bit| right ^ 1 << bit);
     let others = beside.into_iter().chain(below).chain(flipped);
-    for count in others.chain([right.swap_bytes(), u16::MAX]) {
+    others.chain([right.swap_bytes(), u16::MAX])
+}
+
+fn counts(compare: &mut Compare, random: &mut Random, parts: &Parts) -> Checked<()> {
+    let right = parts.count;
+    for count in near_counts(right) {
         let parts = Parts {
             count,
             ..parts.clone()
@@ -39,17 +43,22 @@ fn counts(compare: &mut Compare, random: &mut Random, parts: &Parts) -> Checked<
 
 /// Places that are off by little, by 256, by 65,536 and more or by a bit, have the low byte or the
 /// low word first, or are those of another end.
-fn places(compare: &mut Compare, random: &mut Random, parts: &Parts) -> Checked<()> {
+pub fn near_places(parts: &Parts) -> impl Iterator<Item = u32> {
     let right = parts.place;
     let end = parts.records.len() as u32;
     let off = [1, 2, 3, 255, 256, 1 << 16, 2 << 16, 255 << 16, 1 << 24];
     let beside = off.map(|off| right.wrapping_add(off));
     let below = off.map(|off| right.wrapping_sub(off));
-    let flipped = (0..32).map(|bit| right ^ 1 << bit);
+    let flipped = (0..32).map(move |bit| right ^ 1 << bit);
     let others = beside.into_iter().chain(below).chain(flipped);
     let turned = [right.swap_bytes(), right.rotate_left(16), u32::MAX];
     let ends = [0, end, end.saturating_sub(2), end + 6];
-    for place in others.chain(turned).chain(ends) {
+    others.chain(turned).chain(ends)
+}
+
+fn places(compare: &mut Compare, random: &mut Random, parts: &Parts) -> Checked<()> {
+    let right = parts.place;
+    for place in near_places(parts) {
         let parts = Parts {
             place,
             ..parts.clone()

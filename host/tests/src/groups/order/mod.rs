@@ -11,7 +11,7 @@ mod put;
 mod text;
 
 pub use byte::faults as byte;
-pub use captures::{playback, show};
+pub use captures::{last_write, playback, show};
 pub use frames::faults as frames;
 pub use idle::faults as idle;
 pub use put::faults as put;
@@ -87,4 +87,9 @@ const STATE: Fault = Fault(5, |call, random| match random.below(4) {
         call.state.resize(length, 0);
     }
     _ => outside_limits(&mut call.state, random),
+});
+
+/// 6: an item that there is not.
+const ITEM: Fault = Fault(6, |call, random| {
+    call.item = random.pick(&[0, 13, 256 + call.item, u32::MAX]);
 });

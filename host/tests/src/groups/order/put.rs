@@ -1,15 +1,10 @@
-use super::{every_set, Fault, ENTRY, TABLE_LENGTH};
+use super::{every_set, Fault, ENTRY, ITEM, TABLE_LENGTH};
 use crate::call::{Call, Function};
 use crate::compare::Compare;
 use crate::failure::Checked;
 use crate::random::Random;
 use crate::shapes::{good_table, good_value};
 use reference::items::ITEMS;
-
-/// 6: an item that there is not.
-const ITEM: Fault = Fault(6, |call, random| {
-    call.item = random.pick(&[0, 13, 256 + call.item, u32::MAX]);
-});
 
 /// 7: a value outside the item's range.
 const VALUE: Fault = Fault(7, |call, random| {

@@ -6,7 +6,7 @@ mod values;
 pub use shapes::{counts, lengths};
 pub use values::{edges, lent, spans};
 
-use super::requests::{handed, spoiled};
+use super::requests::{handed, spoiled, words};
 use crate::compare::Compare;
 use crate::failure::Checked;
 use crate::random::Random;
@@ -43,6 +43,15 @@ pub fn request(address: u8, start: u16, quantity: u16, count: u8, data: &[u8]) -
 pub fn right(address: u8, start: u16, values: &[u16]) -> Vec<u8> {
     let data = bytes(values);
     request(address, start, values.len() as u16, data.len() as u8, &data)
+}
+
+/// A write of these values, by either function where it is one register.
+pub fn by_either(random: &mut Random, address: u8, start: u16, values: &[u16]) -> Vec<u8> {
+    if values.len() == 1 && random.one_in(2) {
+        words(address, 0x06, start, values[0])
+    } else {
+        right(address, start, values)
+    }
 }
 
 /// A request that writes any span that can be written.
