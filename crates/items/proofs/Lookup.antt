@@ -5,14 +5,22 @@ use mathlib.Core.Bool.{Bool, true, _&&_, false, cond}
 use mathlib.Core.List.{List, [], _∷_}
 use Prim.Native.Nat.{ℕ, suc, _-_, _<_, _≤_, _+_}
 use native.Mathlib.Omega.{arith}
-use borrow.Author.Tests.{eqb-true, ltb-true, ne-eqb}
-use lib.Dec.{ltb}
+use borrow.Author.Tests.{eqb-true, leb-true, ltb-true, ne-eqb}
+use lib.Dec.{leb, ltb}
 use lib.ListN.{getD, length}
 use Rattle.numbers.proofs.Tests.{both}
 use Rattle.items.specs.declared.Found.{Found}
 use Rattle.items.specs.declared.Found.the-variants.{At, Nothing}
-use Rattle.items.specs.ItemList.{Item, items, mapSize, itemList, noItem, itemAt, firstFrom, named, registered, found, foundByRegister, placeFound, placeOf}
+use Rattle.items.specs.ItemList.{Item, items, listed, mapSize, itemList, noItem, itemAt, firstFrom, named, registered, found, foundByRegister, placeFound, placeOf}
 use Rattle.items.proofs.Lists.{values, values-at}
+
+-- the number of an item is one more than its place in the list
+pub listed-place : (number : ℕ) → listed number ≡ true → (1 ≤ number) × (number - 1 < items)
+listed-place number l =
+    let b = both (leb 1 number) (leb number items) l in
+    let some = leb-true 1 number (b .0) in
+    let few = leb-true number items (b .1) in
+    (some, omega arith)
 
 -- past the map no register is found
 registers-below : ℕ → List Item → Bool

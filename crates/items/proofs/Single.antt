@@ -14,6 +14,9 @@ writable = record { asksNothing = λ κs a. tt; single = λ κs a o u p q. singl
 pub decimals : OneOutcome items.decimals.ended items.decimals.Reads.Asked items.decimals.Reads.Post
 decimals = record { asksNothing = λ κs a. tt; single = λ κs a o u p q. single p q & refl }
 
+pub listed : OneOutcome items.listed.ended items.listed.Reads.Asked items.listed.Reads.Post
+listed = record { asksNothing = λ κs a. tt; single = λ κs a o u p q. single p q & refl }
+
 pub find : OneOutcome items.find.ended items.find.Reads.Asked items.find.Reads.Post
 find = record { asksNothing = λ κs a. tt; single = λ κs a o u p q. single p q & refl }
 

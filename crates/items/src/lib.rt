@@ -1,6 +1,6 @@
 // The item list: what it says of an item, and looking one up. Inside, an item is known by its place in the list, from 0.
 ghost use mathlib.Core.Path.{_≡_};
-ghost use Rattle.items.specs.ItemList.{lineOf, itemAt, identifierOf, inRange, found, foundByRegister, placeOf};
+ghost use Rattle.items.specs.ItemList.{lineOf, itemAt, identifierOf, listed, inRange, found, foundByRegister, placeOf};
 
 // What a search of the list finds: a place in it, or nothing.
 pub enum Found {
@@ -129,6 +129,13 @@ fn high(i: usize) -> i32
     ensures { λ r. ⌜ r ≡ itemAt i .high ⌝ }
 {
     HIGH[line_of(i)]
+}
+
+// Whether an item has this number, counted from 1.
+pub fn listed(number: u32) -> bool
+    ensures { λ r. ⌜ r ≡ listed number ⌝ }
+{
+    (1 <= number) & (number as usize <= ITEMS)
 }
 
 // The item that two characters name.

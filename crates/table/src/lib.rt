@@ -123,7 +123,7 @@ pub fn put(table: &mut [i32], number: u32, value: i32) -> u8
     if fault != NONE {
         return fault;
     }
-    if number == 0 || items::ITEMS < number as usize {
+    if !items::listed(number) {
         return NO_SUCH_ITEM;
     }
     let i = number as usize - 1;
