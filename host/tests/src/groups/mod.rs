@@ -28,7 +28,8 @@ use crate::random::Random;
 type Calls = fn(&mut Compare, &mut Random) -> Checked<()>;
 
 /// The plain parts come first, so that a difference is met where it is easiest to understand; what
-/// is systematic comes before what is random.
+/// is systematic comes before what is random, and captures of all kinds before very many or very
+/// large ones.
 const GROUPS: &[(&str, Calls)] = &[
     ("start values at all lengths", start::lengths),
     ("order of a byte's refusals", order::byte),
@@ -61,15 +62,11 @@ const GROUPS: &[(&str, Calls)] = &[
     ("several registers at every address", several::addresses),
     ("frames of every kind and length", requests::every),
     ("captures of every size", captures::sizes),
-    ("lengths in a capture's records", captures::lengths),
-    ("trailers of captures", captures::trailers),
     ("small captures of small bytes", captures::small),
-    ("captures with a byte wrong", captures::damaged),
     ("every frame of a capture shown", captures::shown),
     ("tables lent to a playback", captures::lent),
     ("captures at every address", captures::addresses),
     ("captured writes over each other", captures::overwritten),
-    ("the largest captures", captures::largest),
     ("items asked for a last write", last_write::item_numbers),
     ("addresses asked for a last write", last_write::addresses),
     ("frames that all but write an item", last_write::near),
@@ -79,10 +76,14 @@ const GROUPS: &[(&str, Calls)] = &[
     ("counts behind a last write", last_write::counts),
     ("places before a last write", last_write::places),
     ("lengths before a last write", last_write::lengths),
-    ("last writes with a byte wrong", last_write::damaged),
     ("anything in front of a last write", last_write::fronts),
     ("captures cut off in front", last_write::cut),
     ("last writes in all sizes", last_write::sizes),
+    ("lengths in a capture's records", captures::lengths),
+    ("trailers of captures", captures::trailers),
+    ("captures with a byte wrong", captures::damaged),
+    ("last writes with a byte wrong", last_write::damaged),
+    ("the largest captures", captures::largest),
     ("last writes in the largest captures", last_write::largest),
     ("edges of number text written", number_text::edges_written),
     ("characters of number text read", number_text::characters),

@@ -9,18 +9,26 @@ pub fn damaged(compare: &mut Compare, random: &mut Random) -> Checked<()> {
     for number in 1..=6 {
         let whole = Parts::of(&good(random, number)).capture();
         each_value(compare, random, &whole)?;
-        each_place(compare, random, &whole)?;
+        for capture in cut_and_doubled(&whole) {
+            tried(compare, random, capture)?;
+        }
     }
     for _ in 0..10_000 {
         let number = 1 + random.below(300);
-        let mut capture = Parts::of(&good(random, number)).capture();
-        for _ in 0..1 + random.below(2) {
-            let place = random.below(capture.len());
-            capture[place] ^= 1 << random.below(8);
-        }
+        let capture = Parts::of(&good(random, number)).capture();
+        let capture = flipped(random, capture);
         tried(compare, random, capture)?;
     }
     Ok(())
+}
+
+/// A capture with one or two bits flipped in any places.
+pub fn flipped(random: &mut Random, mut capture: Vec<u8>) -> Vec<u8> {
+    for _ in 0..1 + random.below(2) {
+        let place = random.below(capture.len());
+        capture[place] ^= 1 << random.below(8);
+    }
+    capture
 }
 
 fn each_value(compare: &mut Compare, random: &mut Random, whole: &[u8]) -> Checked<()> {
@@ -34,13 +42,15 @@ fn each_value(compare: &mut Compare, random: &mut Random, whole: &[u8]) -> Check
     Ok(())
 }
 
-fn each_place(compare: &mut Compare, random: &mut Random, whole: &[u8]) -> Checked<()> {
-    for place in 0..whole.len() {
+/// A capture cut off before each place and behind it, with each byte lost and each one doubled.
+pub fn cut_and_doubled(whole: &[u8]) -> impl Iterator<Item = Vec<u8>> + '_ {
+    (0..whole.len()).flat_map(|place| {
         let (front, back) = whole.split_at(place);
-        tried(compare, random, front.to_vec())?;
-        tried(compare, random, back.to_vec())?;
-        tried(compare, random, [front, &back[1..]].concat())?;
-        tried(compare, random, [front, &back[..1], back].concat())?;
-    }
-    Ok(())
+        [
+            front.to_vec(),
+            back.to_vec(),
+            [front, &back[1..]].concat(),
+            [front, &back[..1], back].concat(),
+        ]
+    })
 }

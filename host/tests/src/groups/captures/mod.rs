@@ -12,12 +12,12 @@ mod shown;
 mod trailers;
 
 pub use any::{any, any_capture, small, small_parts};
-pub use damaged::damaged;
+pub use damaged::{cut_and_doubled, damaged, flipped};
 pub use largest::{full_session, largest, ROOM};
 pub use parts::{filling, good, Parts};
 pub use played::{addresses, lent, overwritten};
 pub use records::{lengths, sizes};
-pub use sessions::{any_frame, sessions};
+pub use sessions::{any_frame, any_session, sessions};
 pub use shown::shown;
 pub use trailers::{near_counts, near_places, trailers};
 

@@ -13,12 +13,18 @@ use reference::items::ITEMS;
 /// Sessions of any frames at any address.
 pub fn sessions(compare: &mut Compare, random: &mut Random) -> Checked<()> {
     for _ in 0..10_000 {
-        let address = random.between(1, 99) as u8;
-        let number = random.below(24);
-        let frames: Vec<Vec<u8>> = (0..number).map(|_| any_frame(random, address)).collect();
+        let (address, frames) = any_session(random);
         session(compare, random, address, &frames)?;
     }
     Ok(())
+}
+
+/// Any frames for any address.
+pub fn any_session(random: &mut Random) -> (u8, Vec<Vec<u8>>) {
+    let address = random.between(1, 99) as u8;
+    let number = random.below(24);
+    let frames = (0..number).map(|_| any_frame(random, address)).collect();
+    (address, frames)
 }
 
 /// Hands frames over one at a time from the start table, and plays a capture of them back. Both

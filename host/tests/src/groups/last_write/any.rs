@@ -1,6 +1,6 @@
 //! Captures of anything: all small ones of small bytes, alone and beside a write, and many of others.
 
-use super::{asking, parts, tells, tried, write, Told};
+use super::{answers, asking, parts, tried, write, Told};
 use crate::call::Call;
 use crate::compare::Compare;
 use crate::failure::Checked;
@@ -27,8 +27,7 @@ pub fn small(compare: &mut Compare, random: &mut Random) -> Checked<()> {
             records: [&small.records[..], &front.records].concat(),
             count: small.count,
         };
-        let call = asking(random, before.capture(), 9);
-        tells(compare, call, Told::Found(value, 1))?;
+        answers(compare, random, &before, 9, Told::Found(value, 1))?;
     }
     Ok(())
 }

@@ -1,23 +1,23 @@
 use super::{asking, due, parts, some, tells, tried, Recorded, Told, DAMAGE};
 use crate::compare::Compare;
 use crate::failure::Checked;
+use crate::groups::captures::{cut_and_doubled, flipped};
 use crate::random::Random;
 
 /// Short captures with each byte changed to each value, each one lost and each one doubled, and cut
-/// off behind each place. Long ones with some bits flipped in any places.
+/// off before each place and behind it. Long ones with some bits flipped in any places.
 pub fn damaged(compare: &mut Compare, random: &mut Random) -> Checked<()> {
     for number in 1..=6 {
         let recorded = some(random, number);
         each_value(compare, random, &recorded)?;
-        each_place(compare, random, &parts(&recorded).capture())?;
+        for capture in cut_and_doubled(&parts(&recorded).capture()) {
+            tried(compare, random, capture)?;
+        }
     }
     for _ in 0..10_000 {
         let number = 1 + random.below(60);
-        let mut capture = parts(&some(random, number)).capture();
-        for _ in 0..1 + random.below(2) {
-            let place = random.below(capture.len());
-            capture[place] ^= 1 << random.below(8);
-        }
+        let capture = parts(&some(random, number)).capture();
+        let capture = flipped(random, capture);
         tried(compare, random, capture)?;
     }
     Ok(())
@@ -67,14 +67,4 @@ fn changed(
         (_, Some(_)) => tells(compare, call, DAMAGE),
         (_, None) => compare.call(&mut call).map(|_| ()),
     }
-}
-
-fn each_place(compare: &mut Compare, random: &mut Random, whole: &[u8]) -> Checked<()> {
-    for place in 0..whole.len() {
-        let (front, back) = whole.split_at(place);
-        tried(compare, random, front.to_vec())?;
-        tried(compare, random, [front, &back[1..]].concat())?;
-        tried(compare, random, [front, &back[..1], back].concat())?;
-    }
-    Ok(())
 }

@@ -1,6 +1,6 @@
 //! What stands in front of the record that answers is not looked at.
 
-use super::{asking, due, parts, some, tells, Recorded, Told, DAMAGE};
+use super::{answers, due, parts, some, Recorded, Told, DAMAGE};
 use crate::compare::Compare;
 use crate::failure::Checked;
 use crate::groups::captures::Parts;
@@ -37,8 +37,8 @@ pub fn fronts(compare: &mut Compare, random: &mut Random) -> Checked<()> {
             records: [front, right.records].concat(),
             count: random.pick(&[0, 1, records as u16, any]),
         };
-        let call = asking(random, spoiled.capture(), item);
-        tells(compare, call, Told::Found(value, records))?;
+        let told = Told::Found(value, records);
+        answers(compare, random, &spoiled, item, told)?;
     }
     Ok(())
 }
@@ -57,15 +57,9 @@ pub fn cut(compare: &mut Compare, random: &mut Random) -> Checked<()> {
             let mut parts = whole.clone();
             parts.records.drain(..lost);
             parts.place = whole.place.saturating_sub(lost as u32);
-            let capture = parts.capture();
-            tells(
-                compare,
-                asking(random, capture, item),
-                behind(left, item, false),
-            )?;
+            answers(compare, random, &parts, item, behind(left, item, false))?;
             parts.count = left.1.len() as u16;
-            let told = behind(left, item, true);
-            tells(compare, asking(random, parts.capture(), item), told)?;
+            answers(compare, random, &parts, item, behind(left, item, true))?;
         }
     }
     Ok(())

@@ -1,6 +1,6 @@
 //! Captures of every size: up to the greatest, and beyond.
 
-use super::{asking, due, parts, tells, tried, write, Recorded, DAMAGE};
+use super::{answers, asking, due, parts, tried, write, Recorded, DAMAGE};
 use crate::compare::Compare;
 use crate::failure::Checked;
 use crate::groups::captures::{filling, full_session, Parts, ROOM};
@@ -47,8 +47,7 @@ fn filled(compare: &mut Compare, random: &mut Random, size: usize) -> Checked<()
             } else {
                 DAMAGE
             };
-            let capture = parts(&recorded).capture();
-            tells(compare, asking(random, capture, item), told)?;
+            answers(compare, random, &parts(&recorded), item, told)?;
         }
     }
     Ok(())
@@ -64,11 +63,7 @@ pub fn largest(compare: &mut Compare, random: &mut Random) -> Checked<()> {
         many(compare, random, &recorded, item)?;
         let mut more = recorded.clone();
         more.push(Recorded::idle(vec![0x55]));
-        tells(
-            compare,
-            asking(random, parts(&more).capture(), item),
-            DAMAGE,
-        )?;
+        answers(compare, random, &parts(&more), item, DAMAGE)?;
     }
     for _ in 0..20 {
         let capture = Parts::of(&full_session(random)).capture();
@@ -91,17 +86,17 @@ fn many(
 ) -> Checked<()> {
     let right = parts(recorded);
     let told = due(recorded, item);
-    tells(compare, asking(random, right.capture(), item), told)?;
+    answers(compare, random, &right, item, told)?;
     let uncounted = if item == 9 { told } else { DAMAGE };
     for count in [right.count - 1, right.count + 1, right.count % 256, 0] {
         let mut other = right.clone();
         other.count = count;
-        tells(compare, asking(random, other.capture(), item), uncounted)?;
+        answers(compare, random, &other, item, uncounted)?;
     }
     let mut far = right.clone();
     far.place += 65_536;
-    tells(compare, asking(random, far.capture(), item), DAMAGE)?;
+    answers(compare, random, &far, item, DAMAGE)?;
     let mut first = right.clone();
     first.records[recorded[0].frame.len() + 1] ^= 1;
-    tells(compare, asking(random, first.capture(), item), DAMAGE)
+    answers(compare, random, &first, item, DAMAGE)
 }

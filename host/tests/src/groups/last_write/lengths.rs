@@ -1,43 +1,32 @@
 //! Records whose length is not that of their frame.
 
-use super::{asking, due, parts, some, tells, write, Recorded, Told, DAMAGE};
+use super::{answers, asking, due, parts, some, write, Recorded, Told, DAMAGE};
 use crate::compare::Compare;
 use crate::failure::Checked;
 use crate::groups::captures::Parts;
 use crate::random::Random;
 
-/// Frames of every length, before a write, behind it and around it; then every length behind each
-/// frame of a capture.
+/// Frames of every length, before a write, behind it and alone; then other lengths behind each frame
+/// of a capture.
 pub fn lengths(compare: &mut Compare, random: &mut Random) -> Checked<()> {
     for length in (0..=600).chain([767, 768, 1024, 4096, 0x8000, 0xFF00]) {
         let long = Recorded::idle(random.bytes(length));
         let write = write(random, 1, (0x10, 1));
         let good = (1..=256).contains(&length);
         let front = vec![long.clone(), write.clone()];
-        tells_of(compare, random, &front, due(&front, 9))?;
+        answers(compare, random, &parts(&front), 9, due(&front, 9))?;
         for recorded in [vec![write.clone(), long.clone()], vec![long.clone()]] {
             let told = if good { due(&recorded, 9) } else { DAMAGE };
-            tells_of(compare, random, &recorded, told)?;
+            answers(compare, random, &parts(&recorded), 9, told)?;
         }
     }
     for number in 1..=4 {
         let recorded = some(random, number);
         for place in 0..number {
-            every_length(compare, random, &recorded, place)?;
+            other_lengths(compare, random, &recorded, place)?;
         }
     }
     Ok(())
-}
-
-/// Asks a capture of these frames for PB.
-fn tells_of(
-    compare: &mut Compare,
-    random: &mut Random,
-    recorded: &[Recorded],
-    told: Told,
-) -> Checked<()> {
-    let capture = parts(recorded).capture();
-    tells(compare, asking(random, capture, 9), told)
 }
 
 /// Lengths in and around what a frame may have, and with each high byte.
@@ -46,10 +35,10 @@ fn any_lengths() -> impl Iterator<Item = u16> {
     (0..=520).chain(high)
 }
 
-/// Every length behind one frame: in front of the record that answers it is not noticed; where it is
+/// Other lengths behind one frame: in front of the record that answers it is not noticed; where it is
 /// met and no frame can have it, or the record would begin before place 0, it is damage. Another
 /// length that leads somewhere may be anything; for the last record the trailer tells.
-fn every_length(
+fn other_lengths(
     compare: &mut Compare,
     random: &mut Random,
     recorded: &[Recorded],
@@ -73,7 +62,7 @@ fn every_length(
                 continue;
             }
         };
-        tells(compare, asking(random, parts.capture(), item), told)?;
+        answers(compare, random, &parts, item, told)?;
         if last {
             pointed(compare, random, parts, (end, length), item)?;
         }
@@ -82,7 +71,7 @@ fn every_length(
 }
 
 /// The last record with another length and a trailer that points to where it then begins: damage if
-/// it can't, and else whatever the frame says that it has now.
+/// it can't, and else whatever the bytes say that are its frame now.
 fn pointed(
     compare: &mut Compare,
     random: &mut Random,
@@ -91,10 +80,9 @@ fn pointed(
     item: u32,
 ) -> Checked<()> {
     parts.place = (end as u32).wrapping_sub(length as u32);
-    let mut call = asking(random, parts.capture(), item);
-    if (1..=256).contains(&length) && length <= end {
-        compare.call(&mut call)?;
-        return Ok(());
+    if !(1..=256).contains(&length) || length > end {
+        return answers(compare, random, &parts, item, DAMAGE);
     }
-    tells(compare, call, DAMAGE)
+    compare.call(&mut asking(random, parts.capture(), item))?;
+    Ok(())
 }

@@ -21,15 +21,17 @@ pub use damaged::damaged;
 pub use fronts::{cut, fronts};
 pub use largest::{largest, sizes};
 pub use lengths::lengths;
+pub use recorded::{parts, some};
 pub use sessions::sessions;
 pub use trailers::{counts, places};
 pub use written::{near, spans, values};
 
+use super::captures::Parts;
 use crate::call::{Call, Function};
 use crate::compare::Compare;
 use crate::failure::{Checked, Failure};
 use crate::random::Random;
-use recorded::{due, parts, some, write, Recorded};
+use recorded::{due, write, Recorded};
 
 /// The call that asks a capture for the last write to an item at address 1. Value and records are
 /// anything before.
@@ -79,6 +81,17 @@ fn tells(compare: &mut Compare, mut call: Call, told: Told) -> Checked<()> {
     Err(Failure::wrong(format!(
         "{told:?} is due, {result} with {given:?} was given\n{before}"
     )))
+}
+
+/// Asks a capture in its parts for an item, of which it must tell this.
+fn answers(
+    compare: &mut Compare,
+    random: &mut Random,
+    parts: &Parts,
+    item: u32,
+    told: Told,
+) -> Checked<()> {
+    tells(compare, asking(random, parts.capture(), item), told)
 }
 
 /// Asks a capture for the last write to any item, whatever that gives.

@@ -4,7 +4,7 @@ use super::{asking, tells, Told};
 use crate::call::Call;
 use crate::compare::Compare;
 use crate::failure::{Checked, Failure};
-use crate::groups::captures::{any_frame, playback, Parts};
+use crate::groups::captures::{any_session, playback, Parts};
 use crate::groups::gives;
 use crate::random::Random;
 use reference::items::ITEMS;
@@ -13,9 +13,7 @@ use reference::items::ITEMS;
 /// found must be what a playback leaves, and the start value where nothing is.
 pub fn sessions(compare: &mut Compare, random: &mut Random) -> Checked<()> {
     for _ in 0..3_000 {
-        let address = random.between(1, 99) as u8;
-        let number = random.below(24);
-        let frames: Vec<Vec<u8>> = (0..number).map(|_| any_frame(random, address)).collect();
+        let (address, frames) = any_session(random);
         session(compare, random, address, &frames)?;
         let other = random.between(1, 99) as u8;
         session(compare, random, other, &frames)?;

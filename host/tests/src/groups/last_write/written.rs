@@ -1,6 +1,6 @@
 //! Frames that write an item, and frames that come near to it.
 
-use super::{asking, due, parts, tells, write, Recorded, Told};
+use super::{answers, due, parts, write, Recorded, Told};
 use crate::compare::Compare;
 use crate::failure::Checked;
 use crate::groups::captures::Parts;
@@ -35,8 +35,8 @@ pub fn near(compare: &mut Compare, random: &mut Random) -> Checked<()> {
 /// Asks a capture of these frames for every item.
 fn all_items(compare: &mut Compare, random: &mut Random, recorded: &[Recorded]) -> Checked<()> {
     for item in 1..=12 {
-        let call = asking(random, parts(recorded).capture(), item);
-        tells(compare, call, due(recorded, item))?;
+        let told = due(recorded, item);
+        answers(compare, random, &parts(recorded), item, told)?;
     }
     Ok(())
 }
@@ -164,8 +164,7 @@ fn one_value(compare: &mut Compare, random: &mut Random, item: usize, word: u16)
     } else {
         Told::Never(1)
     };
-    let capture = Parts::of(&[frame]).capture();
-    tells(compare, asking(random, capture, item as u32), told)
+    answers(compare, random, &Parts::of(&[frame]), item as u32, told)
 }
 
 /// Every span in and around the map, for every item: each register that it names is found where all

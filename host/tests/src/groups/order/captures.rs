@@ -59,11 +59,11 @@ pub fn show(compare: &mut Compare, random: &mut Random) -> Checked<()> {
     Ok(())
 }
 
-/// Every set of faults of a last write, found or not.
+/// Every set of faults of a last write, for every item, found or not.
 pub fn last_write(compare: &mut Compare, random: &mut Random) -> Checked<()> {
-    for _ in 0..100 {
-        let number = random.below(5);
-        let capture = captures::Parts::of(&captures::good(random, number)).capture();
+    for _ in 0..40 {
+        let number = random.below(10);
+        let capture = asked::parts(&asked::some(random, number)).capture();
         for item in 1..=12 {
             let call = Call {
                 address: random.pick(&[1, 1, 2, 99]),
