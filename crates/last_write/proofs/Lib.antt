@@ -1,3 +1,6 @@
 pub mod First
 pub mod Walked
+pub mod Frames
+pub mod Front
+pub mod Claims
 pub mod Single

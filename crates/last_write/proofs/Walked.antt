@@ -18,11 +18,11 @@ use Rattle.writes.specs.declared.Given.{Given}
 use Rattle.writes.specs.declared.Given.the-variants.{Nothing}
 use Rattle.rtu.specs.Frame.{isAddress}
 use Rattle.capture.specs.Format.{badCapture, longestFrame, sizeBytes, size, begins, recordEnds, frameBefore, trailerBegins, trailerRight, count}
-use Rattle.capture.proofs.Walk.{ends, begun}
+use Rattle.capture.proofs.Walk.{ends}
 use Rattle.playback.specs.Written.{wrote}
-use Rattle.last_write.specs.LastWrite.{Question, isValue, placeAfter, writtenBefore, stopsAt, passedOver, stop, found, undamaged}
+use Rattle.last_write.specs.LastWrite.{Question, isValue, placeAfter, writtenBefore, stopsAt, passedOver, stop, writeFound, undamaged}
 use Rattle.last_write.specs.LastWrite.{askNumber, lastWritten, recordsRead, Answers, refusedBy, Askable}
-use Rattle.last_write.proofs.First.{first-is}
+use Rattle.last_write.proofs.First.{Earliest, first-is}
 
 -- ---- one record
 
@@ -72,6 +72,12 @@ module _ (q : Question) (c : List ℕ) where
 
 -- ---- where it stops
 
+-- at the first record at which it can, which is none past the capture's length
+pub found-at : (q : Question) (c : List ℕ) (n : ℕ) → n ≤ length c → Earliest (λ k. stopsAt q c (placeAfter c (trailerBegins c) k)) n
+    → (passedOver q c ≡ n) × (stop q c ≡ placeAfter c (trailerBegins c) n)
+unfolding passedOver stop
+found-at q c n h e = let first = first-is (length c) _ n h e in (first, ap (placeAfter c (trailerBegins c)) first)
+
 -- a number is met, and so nothing is told
 pub no-answer : (q : Question) (c : List ℕ) {number : ℕ} → askNumber q c ≡ number → (number ≡ none → ⊥) → Answers q c (refusedBy number)
 unfolding lastWritten recordsRead
@@ -79,8 +85,8 @@ no-answer q c e h =
     let met : askNumber q c ≡ none → ⊥ = λ z. h (sym e ∙ z) in
     record {
       given = sym e;
-      written = sym (is-refused (askNumber q c) (λ number. Nothing) (found q c) met);
-      read = sym (is-refused (askNumber q c) (λ number. 0) (cond (isValue (found q c)) (suc (passedOver q c)) (passedOver q c)) met);
+      written = sym (is-refused (askNumber q c) (λ number. Nothing) (writeFound q c) met);
+      read = sym (is-refused (askNumber q c) (λ number. 0) (cond (isValue (writeFound q c)) (suc (passedOver q c)) (passedOver q c)) met);
     }
 
 -- the address, the item, and where a walk can't begin
@@ -104,27 +110,26 @@ module _ (q : Question) (c : List ℕ) (a : Askable q c) where
   number-by = rw (a .address, a .item, a .trailer) (last-met _)
 
   -- it has met no damage, and this is told
-  pub is-answer : {g : Given} {n : ℕ} → undamaged q c ≡ true → found q c ≡ g
+  pub is-answer : {g : Given} {n : ℕ} → undamaged q c ≡ true → writeFound q c ≡ g
       → cond (isValue g) (suc (passedOver q c)) (passedOver q c) ≡ n → Answers q c (record { number = none; written = g; records = n })
   unfolding lastWritten recordsRead
   is-answer u f r =
       let met : askNumber q c ≡ none = number-by ∙ rw u in
       record {
         given = sym met;
-        written = sym (is-done (askNumber q c) (λ number. Nothing) (found q c) met ∙ f);
+        written = sym (is-done (askNumber q c) (λ number. Nothing) (writeFound q c) met ∙ f);
         read =
-            sym (is-done (askNumber q c) (λ number. 0) (cond (isValue (found q c)) (suc (passedOver q c)) (passedOver q c)) met ∙ rw f r);
+            sym (is-done (askNumber q c) (λ number. 0) (cond (isValue (writeFound q c)) (suc (passedOver q c)) (passedOver q c)) met ∙ rw f r);
       }
 
   module _ {n end : ℕ} (w : Walked q c n end) where
     -- it stops here
     pub stops-here : stopsAt q c end ≡ true → (passedOver q c ≡ n) × (stop q c ≡ end)
-    unfolding passedOver stop trailerBegins
+    unfolding trailerBegins
     stops-here s =
-        let long = begun c (a .trailer) .long in
         let few = w .few in
-        let first = first-is (length c) _ n (omega arith) (w .passed) (ap (stopsAt q c) (sym (w .here)) ∙ s) in
-        (first, ap (placeAfter c (trailerBegins c)) first ∙ sym (w .here))
+        let at = found-at q c n (omega arith) (record { holds = ap (stopsAt q c) (sym (w .here)) ∙ s; before = w .passed }) in
+        (at .0, at .1 ∙ sym (w .here))
 
     -- a frame answers
     pub frame-answers : recordEnds c end ≡ true → {g : Given} → g ≡ wrote (q .address) (frameBefore c end) (q .item - 1) → isValue g ≡ true
@@ -132,15 +137,15 @@ module _ (q : Question) (c : List ℕ) (a : Askable q c) where
     frame-answers r {g} e v =
         let there = by-frame q c end r ∙ sym e in
         let at = stops-here (rw (r, there, v)) in
-        let f : found q c ≡ g = ap (writtenBefore q c) (at .1) ∙ there in
+        let f : writeFound q c ≡ g = ap (writtenBefore q c) (at .1) ∙ there in
         is-answer (rw (f, v)) f (rw (v, at .0, add-one n))
 
-    -- no record ends here: nothing is found, and whether all were read decides
+    -- no record ends here: nothing is writeFound, and whether all were read decides
     module _ (r : recordEnds c end ≡ false) where
       at-end : (passedOver q c ≡ n) × (stop q c ≡ end)
       at-end = stops-here (rw r)
 
-      nothing : found q c ≡ Nothing
+      nothing : writeFound q c ≡ Nothing
       nothing = ap (writtenBefore q c) (at-end .1) ∙ no-record q c end r
 
       pub meets-damage : (eqb end 0 && eqb n (count c)) ≡ false → Answers q c (refusedBy badCapture)

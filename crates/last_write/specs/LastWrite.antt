@@ -53,12 +53,12 @@ unfoldable pub stop : Question → List ℕ → ℕ
 stop q c = placeAfter c (trailerBegins c) (passedOver q c)
 
 -- what it finds: what the record there writes to the item
-abbrev pub found : Question → List ℕ → Given
-found q c = writtenBefore q c (stop q c)
+abbrev pub writeFound : Question → List ℕ → Given
+writeFound q c = writtenBefore q c (stop q c)
 
 -- it has met no damage where a frame answers, or where it has reached place 0 after as many records as the trailer says
 abbrev pub undamaged : Question → List ℕ → Bool
-undamaged q c = isValue (found q c) || eqb (stop q c) 0 && eqb (passedOver q c) (count c)
+undamaged q c = isValue (writeFound q c) || (eqb (stop q c) 0 && eqb (passedOver q c) (count c))
 
 -- ---- the answer
 
@@ -74,11 +74,11 @@ askNumber q c =
 
 -- the last value that was written to the item, or nothing; nothing where a number is met
 unfoldable pub lastWritten : Question → List ℕ → Given
-lastWritten q c = unlessMet (askNumber q c) (λ number. Nothing) (found q c)
+lastWritten q c = unlessMet (askNumber q c) (λ number. Nothing) (writeFound q c)
 
 -- the records read, from the end up to the one that answers, both counted, or all where none does; none where a number is met
 unfoldable pub recordsRead : Question → List ℕ → ℕ
-recordsRead q c = unlessMet (askNumber q c) (λ number. 0) (cond (isValue (found q c)) (suc (passedOver q c)) (passedOver q c))
+recordsRead q c = unlessMet (askNumber q c) (λ number. 0) (cond (isValue (writeFound q c)) (suc (passedOver q c)) (passedOver q c))
 
 -- the promise of an answer
 pub record Answers (q : Question) (c : List ℕ) (r : Answer) : Type 0 where

@@ -1,1 +1,2 @@
 pub mod LastWrite
+pub mod Claims

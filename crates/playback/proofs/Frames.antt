@@ -2,7 +2,7 @@
 -- item.
 -- Assumes nothing.
 use mathlib.Core.Path.{_≡_, refl, sym, ap, _∙_}
-use mathlib.Core.Bool.{Bool, true, false}
+use mathlib.Core.Bool.{Bool, true, false, _&&_}
 use mathlib.Core.List.{List, [], _∷_, _++_}
 use Prim.Native.Nat.{ℕ, _≤_, _<_}
 use native.Mathlib.Omega.{arith}
@@ -13,17 +13,17 @@ use lib.ListN.{length}
 use lib.Seq.{length-sets, ext-getD}
 use Rattle.numbers.specs.Numbers.{none, leastBuffer}
 use Rattle.numbers.proofs.Tests.{both}
-use Rattle.items.specs.ItemList.{items}
+use Rattle.items.specs.ItemList.{items, itemAt}
 use Rattle.table.specs.Table.{goodTable, tableFault, startValues, entry}
 use Rattle.table.proofs.Laws.{good-start, good-length}
 use Rattle.crc.specs.Crc.{bodyOf}
 use Rattle.writes.specs.declared.Given.{Given}
 use Rattle.writes.specs.declared.Given.the-variants.{Nothing}
-use Rattle.writes.specs.Writes.{given, later, over}
-use Rattle.writes.proofs.Stored.{later-none, later-assoc, over-later, all-given}
+use Rattle.writes.specs.Writes.{allowed, each, given, later, over}
+use Rattle.writes.proofs.Stored.{later-none, later-assoc, over-later, all-given, read-only-given}
 use Rattle.modbus.specs.Outcome.{Outcome}
-use Rattle.modbus.specs.Rules.{acted}
-use Rattle.settings.specs.Settings.{writesOf, acceptsWrite}
+use Rattle.modbus.specs.Rules.{ours, acted}
+use Rattle.settings.specs.Settings.{writesOf, rightForm, acceptsWrite}
 use Rattle.settings.proofs.Accepted.{accepted-stores, others-leave}
 use Rattle.rtu.specs.Frame.{Call, isAddress, callFault, frameFault, actedOn}
 use Rattle.rtu.proofs.Refusals.{is-fine, no-fault, frame-has-body, refused-frame}
@@ -60,6 +60,19 @@ module _ (address : ℕ) (frame : List ℕ) where
     pub accepted-writes : acceptsFrame address frame ≡ true → wrote address frame i ≡ given (writesOf (bodyOf frame)) i
     unfolding wrote
     accepted-writes a = rw a
+
+-- a read-only item is never written
+pub read-only-writes : (address : ℕ) (frame : List ℕ) (i : ℕ) → itemAt i .writable ≡ false → wrote address frame i ≡ Nothing
+unfolding acceptsFrame acceptsWrite
+read-only-writes address frame i r = by (acceptsFrame address frame) refl
+  where
+    by : (b : Bool) → acceptsFrame address frame ≡ b → wrote address frame i ≡ Nothing
+    by false a = other-writes address frame i a
+    by true a =
+        let message = both (eqb (frameFault frame) none) (acceptsWrite address (bodyOf frame)) a .1 in
+        let form = ours address (bodyOf frame) && rightForm (bodyOf frame) in
+        accepted-writes address frame i a
+        ∙ read-only-given (writesOf (bodyOf frame)) i (both form (each allowed (writesOf (bodyOf frame))) message .1) r
 
 -- ---- one frame
 

@@ -6,15 +6,15 @@ use mathlib.Core.Bool.{Bool, true, false, cond}
 use mathlib.Core.List.{List, [], _∷_}
 use Prim.Native.Nat.{ℕ, _<_}
 use native.Mathlib.Omega.{arith}
-use borrow.Author.Tests.{eqb-true, eqb-false}
+use borrow.Author.Tests.{eqb-true, eqb-false, ne-eqb}
 use lib.Dec.{eqb}
 use lib.IntN.{ℤ}
 use lib.ListN.{length}
-use Rattle.numbers.proofs.Tests.{both}
+use Rattle.numbers.proofs.Tests.{contrary, both}
 use Rattle.items.specs.ItemList.{itemAt, inRange}
 use Rattle.table.specs.Table.{goodTable, entry, stored}
 use Rattle.table.proofs.Laws.{good-stored, stored-length, stored-same, stored-other, stored-read-only, stored-in-range}
-use Rattle.writes.specs.Writes.{Write, writable, inside, each, storedAll, later, given, over}
+use Rattle.writes.specs.Writes.{Write, writable, inside, allowed, each, storedAll, later, given, over}
 use Rattle.writes.specs.declared.Given.{Given}
 use Rattle.writes.specs.declared.Given.the-variants.{Value, Nothing}
 
@@ -64,6 +64,15 @@ all-read-only t [] j a r = refl
 all-read-only t (w ∷ ws) j a r =
     let p = both (writable w) (each writable ws) a in
     all-read-only (stored t (w .place) (w .value)) ws j (p .1) r ∙ stored-read-only t (w .place) j (w .value) (p .0) r
+
+-- since they give them nothing
+pub read-only-given : (ws : List Write) (i : ℕ) → each allowed ws ≡ true → itemAt i .writable ≡ false → given ws i ≡ Nothing
+read-only-given [] i a r = refl
+read-only-given (w ∷ ws) i a r =
+    let p = both (allowed w) (each allowed ws) a in
+    let here = both (writable w) (inside w) (p .0) .0 in
+    let other : w .place ≡ i → ⊥ = λ e. contrary (sym here ∙ ap (λ (j : ℕ). itemAt j .writable) e ∙ r) in
+    rw (read-only-given ws i (p .1) r, ne-eqb (w .place) i other)
 
 -- and leave every entry unchanged or in its range, in any table
 pub all-in-range : (t : List ℤ) (ws : List Write) (j : ℕ) → each inside ws ≡ true

@@ -1,0 +1,166 @@
+-- What is claimed in specs/Claims.antt of every question to every capture.
+-- Assumes nothing.
+use mathlib.Core.Path.{_≡_, refl, sym, ap, _∙_}
+use mathlib.Core.Bool.{Bool, true, false}
+use mathlib.Core.List.{List}
+use Prim.Native.Nat.{ℕ, _+_, _-_, _≤_, _<_}
+use native.Mathlib.Numerals.{add-one}
+use native.Mathlib.Omega.{arith}
+use borrow.Author.Tests.{eqb-true, eqb-false, eq-eqb}
+use lib.Dec.{eqb}
+use lib.IntN.{ℤ}
+use lib.ListN.{length, replicate, length-replicate}
+use Rattle.numbers.specs.Numbers.{none, leastBuffer, badSetting}
+use Rattle.numbers.proofs.Tests.{contrary}
+use Rattle.numbers.proofs.Order.{passed, is-refused, is-done}
+use Rattle.items.specs.ItemList.{items, listed, itemAt}
+use Rattle.items.proofs.Lookup.{listed-place}
+use Rattle.table.specs.Table.{noSuchItem, startValues, entry}
+use Rattle.writes.specs.declared.Given.{Given}
+use Rattle.writes.specs.declared.Given.the-variants.{Nothing}
+use Rattle.writes.specs.Writes.{over}
+use Rattle.rtu.specs.Frame.{isAddress}
+use Rattle.capture.specs.Format.{badCapture, begins, recordEnds, trailerBegins, trailerRight, count, captureFault, frames}
+use Rattle.capture.proofs.Walk.{sound}
+use Rattle.playback.specs.Playback.{playNumber, played}
+use Rattle.playback.specs.Written.{lastWrite}
+use Rattle.playback.proofs.Frames.{start-fine, handed-writes, read-only-writes}
+use Rattle.playback.proofs.Played.{play-capture}
+use Rattle.playback.proofs.Claims.{playback-claimed}
+use Rattle.last_write.specs.LastWrite.{Question, isValue, placeAfter, writtenBefore, stopsAt, passedOver, stop, writeFound, undamaged}
+use Rattle.last_write.specs.LastWrite.{askNumber, lastWritten, recordsRead, Answers, Askable}
+use Rattle.last_write.specs.Claims.{framesRead, recordsFrom, OfWellFormed, OfLastWrite}
+use Rattle.last_write.proofs.First.{first-is}
+use Rattle.last_write.proofs.Walked.{one-further, by-frame, no-record, found-at, is-answer}
+use Rattle.last_write.proofs.Frames.{no-value, Stopped, stops, agrees}
+use Rattle.last_write.proofs.Front.{answered-alike}
+
+-- ---- where the walk from the trailer stops
+
+module _ (q : Question) (c : List ℕ) where
+  stopped : Stopped q c (trailerBegins c)
+  stopped = stops q c (trailerBegins c) (trailerBegins c) (omega arith)
+
+  in-time : stopped .passed ≤ length c
+  unfolding trailerBegins
+  in-time = let few = stopped .few in omega arith
+
+  at-last : (passedOver q c ≡ stopped .passed) × (stop q c ≡ placeAfter c (trailerBegins c) (stopped .passed))
+  at-last = found-at q c (stopped .passed) in-time (stopped .first)
+
+-- ---- a well-formed capture
+
+-- full playback leaves in each entry what the last of the frames writes to its item
+played-entry : (t : List ℤ) (address : ℕ) (c : List ℕ) → length t ≡ items → isAddress address ≡ true → captureFault c ≡ none → (i : ℕ)
+    → i < items → entry (played t address c) i ≡ over (entry startValues i) (lastWrite address (frames c) i)
+played-entry t address c l a fine i h =
+    let buffer = replicate {A = ℕ} leastBuffer 0 in
+    let room : leastBuffer ≤ length buffer = omega (arith, length-replicate {A = ℕ} leastBuffer 0) in
+    ap (λ (s : List ℤ). entry s i) (playback-claimed t address c .anyBuffer (play-capture t address c l a ∙ fine) buffer room)
+    ∙ handed-writes (frames c) (record { table = startValues; buffer = buffer; address = address }) (start-fine address buffer a room) i h
+
+module _ (q : Question) (c : List ℕ) (a : isAddress (q .address) ≡ true) (i : listed (q .item) ≡ true) (fine : captureFault c ≡ none) where
+  abbrev last : Given
+  last = lastWrite (q .address) (frames c) (q .item - 1)
+
+  answered : Answers q c (record { number = none; written = last; records = framesRead (q .address) (frames c) (q .item - 1) })
+  unfolding frames
+  answered =
+      let s = sound c fine in
+      let at = at-last q c in
+      let g = agrees q c (count c) (trailerBegins c) (stopped q c .passed) (s .walking) (stopped q c .first) in
+      let here : writeFound q c ≡ last = ap (writtenBefore q c) (at .1) ∙ g .written in
+      is-answer q c (record { address = a; item = i; trailer = s .right }) (whole here (λ v. let e = g .all v in (at .1 ∙ e .0, at .0 ∙ e .1))) here (rw (at .0) (g .read))
+    where
+      whole : writeFound q c ≡ last → (isValue last ≡ false → (stop q c ≡ 0) × (passedOver q c ≡ count c)) → undamaged q c ≡ true
+      whole here all = by (isValue last) refl
+        where
+          by : (b : Bool) → isValue last ≡ b → undamaged q c ≡ true
+          by true v = rw (here, v)
+          by false v = let e = all v in rw (here, v, eq-eqb _ _ (e .0), eq-eqb _ _ (e .1))
+
+  well-formed : OfWellFormed q c
+  well-formed =
+      record {
+        answered = sym (answered .given);
+        lastOfFrames = sym (answered .written);
+        readOfFrames = sym (answered .read);
+        inPlayback = λ t l. rw (← (answered .written)) (played-entry t (q .address) c l a fine (q .item - 1) (listed-place (q .item) i .1));
+      }
+
+-- ---- any capture
+
+module _ (q : Question) (c : List ℕ) where
+  -- what is known of a question that is answered
+  askable : askNumber q c ≡ none → Askable q c
+  unfolding askNumber
+  askable e =
+      let a = passed (isAddress (q .address)) badSetting _ (omega arith) e in
+      let i = passed (listed (q .item)) noSuchItem _ (omega arith) (a .1) in
+      let t = passed (trailerRight c) badCapture _ (omega arith) (i .1) in
+      record { address = a .0; item = i .0; trailer = t .0 }
+
+  -- where a value is told, it is one that was found
+  told : isValue (lastWritten q c) ≡ true → (askNumber q c ≡ none) × (lastWritten q c ≡ writeFound q c)
+  unfolding lastWritten
+  told v = by (eqb (askNumber q c) none) refl
+    where
+      by : (b : Bool) → eqb (askNumber q c) none ≡ b → (askNumber q c ≡ none) × (lastWritten q c ≡ writeFound q c)
+      by true e =
+          let met = eqb-true (askNumber q c) none e in
+          (met, is-done (askNumber q c) (λ number. Nothing) (writeFound q c) met)
+      by false e =
+          let nothing = is-refused (askNumber q c) (λ number. Nothing) (writeFound q c) (eqb-false (askNumber q c) none e) in
+          contrary (sym v ∙ ap isValue nothing)
+
+  -- by a record that ends there
+  value-ends : (end : ℕ) → isValue (writtenBefore q c end) ≡ true → recordEnds c end ≡ true
+  value-ends end v = by (recordEnds c end) refl
+    where
+      by : (b : Bool) → recordEnds c end ≡ b → recordEnds c end ≡ true
+      by true r = r
+      by false r = contrary (sym v ∙ ap isValue (no-record q c end r))
+
+  -- a read-only item is written by no record
+  read-only-before : itemAt (q .item - 1) .writable ≡ false → (end : ℕ) → writtenBefore q c end ≡ Nothing
+  read-only-before r end = by (recordEnds c end) refl
+    where
+      by : (b : Bool) → recordEnds c end ≡ b → writtenBefore q c end ≡ Nothing
+      by true e = by-frame q c end e ∙ read-only-writes (q .address) _ (q .item - 1) r
+      by false e = no-record q c end e
+
+  read-only : itemAt (q .item - 1) .writable ≡ false → lastWritten q c ≡ Nothing
+  read-only r = no-value (lastWritten q c) (by (isValue (lastWritten q c)) refl)
+    where
+      by : (b : Bool) → isValue (lastWritten q c) ≡ b → b ≡ false
+      by false v = refl
+      by true v = contrary (sym v ∙ ap isValue (told v .1 ∙ read-only-before r (stop q c)))
+
+  -- a capture with the same records from the answering one on gets the same answer
+  unseen : isValue (lastWritten q c) ≡ true → (d : List ℕ) (place : ℕ) → trailerRight d ≡ true
+      → recordsFrom place d ≡ recordsFrom (begins c (stop q c)) c
+      → (askNumber q d ≡ askNumber q c) × (lastWritten q d ≡ lastWritten q c) × (recordsRead q d ≡ recordsRead q c)
+  unseen v d place right same =
+      let t = told v in
+      let a = askable (t .0) in
+      let at = at-last q c in
+      let n = stopped q c .passed in
+      let value : isValue (writeFound q c) ≡ true = ap isValue (sym (t .1)) ∙ v in
+      let ended = rw (at .1) at (value-ends (stop q c) value) in
+      let begin = ap (begins c) (at .1) ∙ sym (one-further c n (trailerBegins c)) in
+      let there =
+      answered-alike q c d n place (stopped q c .first) ended (same ∙ ap (λ (p : ℕ). recordsFrom p c) begin)
+      (record { address = a .address; item = a .item; trailer = right }) (ap (writtenBefore q c) (at .1)) value in
+      let here = is-answer q c a {n = n + 1} (rw value) refl (rw (value, at .0, add-one n)) in
+      (sym (there .given) ∙ here .given, sym (there .written) ∙ here .written, sym (there .read) ∙ here .read)
+
+pub last-write-claimed : (q : Question) (c : List ℕ) → OfLastWrite q c
+unfolding passedOver
+last-write-claimed q c =
+    record {
+      wellFormed = well-formed q c;
+      frontUnseen = unseen q c;
+      readOnlyNever = read-only q c;
+      stopsInTime = λ bound h.
+          first-is bound _ (stopped q c .passed) (omega (arith, in-time q c)) (stopped q c .first) ∙ sym (at-last q c .0);
+    }

@@ -1,0 +1,53 @@
+-- What is claimed of an answer beside its promise.
+use Prim.Native.Nat.{ℕ, suc, _-_, _≤_}
+use mathlib.Core.Path.{_≡_}
+use mathlib.Core.Bool.{true, false, cond}
+use mathlib.Core.List.{List, [], _∷_}
+use lib.IntN.{ℤ}
+use lib.ListN.{length, take, drop}
+use Rattle.numbers.specs.Numbers.{none}
+use Rattle.items.specs.ItemList.{items, listed, itemAt}
+use Rattle.table.specs.Table.{startValues, entry}
+use Rattle.writes.specs.declared.Given.the-variants.{Nothing}
+use Rattle.writes.specs.Writes.{over}
+use Rattle.rtu.specs.Frame.{isAddress}
+use Rattle.capture.specs.Format.{begins, trailerBegins, trailerRight, captureFault, frames}
+use Rattle.playback.specs.Playback.{played}
+use Rattle.playback.specs.Written.{lastWrite}
+use Rattle.last_write.specs.LastWrite.{Question, isValue, firstBelow, placeAfter, stopsAt, passedOver, stop}
+use Rattle.last_write.specs.LastWrite.{askNumber, lastWritten, recordsRead}
+
+-- how many frames there are from the end of all up to the last one that writes to an item, both counted, or all where none does: where
+-- one behind the first writes to it the first makes no difference, and else all are counted
+abbrev pub framesRead : ℕ → List (List ℕ) → ℕ → ℕ
+framesRead address [] i = 0
+framesRead address (f ∷ fs) i = cond (isValue (lastWrite address fs i)) (framesRead address fs i) (suc (length fs))
+
+-- the records of a capture from a place on, up to its trailer
+abbrev pub recordsFrom : ℕ → List ℕ → List ℕ
+recordsFrom place c = drop place (take (trailerBegins c) c)
+
+-- of a well-formed capture, asked at an address for an item that there are
+pub record OfWellFormed (q : Question) (c : List ℕ) : Type 0 where
+  pub answered : askNumber q c ≡ none
+  -- the answer is what the last of its frames writes to the item that writes to it at all, and the records read are its distance from
+  -- the end
+  pub lastOfFrames : lastWritten q c ≡ lastWrite (q .address) (frames c) (q .item - 1)
+  pub readOfFrames : recordsRead q c ≡ framesRead (q .address) (frames c) (q .item - 1)
+  -- the table of playback holds that value at the end, and the start value where the item was never written
+  pub inPlayback : (t : List ℤ) → length t ≡ items
+      → entry (played t (q .address) c) (q .item - 1) ≡ over (entry startValues (q .item - 1)) (lastWritten q c)
+
+-- of any capture
+pub record OfLastWrite (q : Question) (c : List ℕ) : Type 0 where
+  pub wellFormed : isAddress (q .address) ≡ true → listed (q .item) ≡ true → captureFault c ≡ none → OfWellFormed q c
+  -- the answer depends on nothing in front of the record that answers: another capture that has the same records from there on, and
+  -- whose trailer is right, gets the same answer, whatever stands in front and whatever either trailer counts
+  pub frontUnseen : isValue (lastWritten q c) ≡ true → (d : List ℕ) (place : ℕ) → trailerRight d ≡ true
+      → recordsFrom place d ≡ recordsFrom (begins c (stop q c)) c
+      → (askNumber q d ≡ askNumber q c) × (lastWritten q d ≡ lastWritten q c) × (recordsRead q d ≡ recordsRead q c)
+  -- a read-only item is never written
+  pub readOnlyNever : itemAt (q .item - 1) .writable ≡ false → lastWritten q c ≡ Nothing
+  -- the walk stops before it has passed over more records than the capture has bytes: to look for a place further on finds no other
+  pub stopsInTime : (bound : ℕ) → length c ≤ bound
+      → firstBelow bound (λ n. stopsAt q c (placeAfter c (trailerBegins c) n)) ≡ passedOver q c
