@@ -26,13 +26,13 @@ pub fn damaged(compare: &mut Compare, random: &mut Random) -> Checked<()> {
 /// Each byte with each value for any item, and with some values for every item.
 fn each_value(compare: &mut Compare, random: &mut Random, recorded: &[Recorded]) -> Checked<()> {
     let whole = parts(recorded).capture();
-    for place in 0..whole.len() {
+    for (place, byte) in whole.into_iter().enumerate() {
         for value in 0..=255 {
             let item = 1 + random.below(12) as u32;
             changed(compare, random, recorded, (place, value), item)?;
         }
         for item in 1..=12 {
-            for value in [0, 1, whole[place] ^ 1, whole[place] ^ 0x80] {
+            for value in [0, 1, byte ^ 1, byte ^ 0x80] {
                 changed(compare, random, recorded, (place, value), item)?;
             }
         }
@@ -40,8 +40,7 @@ fn each_value(compare: &mut Compare, random: &mut Random, recorded: &[Recorded])
     Ok(())
 }
 
-/// Asks a capture of which one byte is changed. What is due is known where the byte is not looked
-/// at, in front of the record that answers or in the count, and where it is one of the place.
+/// Asks a capture of which one byte is changed.
 fn changed(
     compare: &mut Compare,
     random: &mut Random,
@@ -50,21 +49,62 @@ fn changed(
     item: u32,
 ) -> Checked<()> {
     let mut capture = parts(recorded).capture();
-    let trailer = capture.len() - 6;
-    let same = capture[place] == value;
+    let told = if capture[place] == value {
+        Some(due(recorded, item))
+    } else {
+        spoiled(recorded, place, item)
+    };
     capture[place] = value;
     let mut call = asking(random, capture, item);
-    let told = due(recorded, item);
-    let begins = match told {
-        Told::Found(_, records) => parts(&recorded[..recorded.len() - records]).records.len(),
-        _ => 0,
-    };
-    if same || place < begins {
-        return tells(compare, call, told);
+    match told {
+        Some(told) => tells(compare, call, told),
+        None => compare.call(&mut call).map(|_| ()),
     }
-    match (told, place.checked_sub(trailer)) {
-        (Told::Found(..), Some(0 | 1)) => tells(compare, call, told),
-        (_, Some(_)) => tells(compare, call, DAMAGE),
-        (_, None) => compare.call(&mut call).map(|_| ()),
+}
+
+/// What is told where the byte at a place is wrong. None where it is one of a length that is met,
+/// which may lead anywhere.
+fn spoiled(recorded: &[Recorded], place: usize, item: u32) -> Option<Told> {
+    let told = due(recorded, item);
+    match part_at(recorded, place) {
+        Part::Frame(number) => {
+            // No frame has a right CRC with one byte wrong.
+            let mut recorded = recorded.to_vec();
+            recorded[number].writes.clear();
+            Some(due(&recorded, item))
+        }
+        Part::Length(number) => match told {
+            Told::Found(_, records) if number + records < recorded.len() => Some(told),
+            _ => None,
+        },
+        Part::Count if told != Told::Never(recorded.len()) => Some(told),
+        Part::Count | Part::Place => Some(DAMAGE),
+    }
+}
+
+/// What a byte of a capture belongs to: the frame or the length of a record, which count from 0, or
+/// a part of the trailer.
+enum Part {
+    Frame(usize),
+    Length(usize),
+    Count,
+    Place,
+}
+
+fn part_at(recorded: &[Recorded], mut place: usize) -> Part {
+    for (number, one) in recorded.iter().enumerate() {
+        let length = one.frame.len();
+        if place < length {
+            return Part::Frame(number);
+        }
+        if place < length + 2 {
+            return Part::Length(number);
+        }
+        place -= length + 2;
+    }
+    if place < 2 {
+        Part::Count
+    } else {
+        Part::Place
     }
 }

@@ -56,7 +56,9 @@ fn all_but(random: &mut Random, span: (u16, usize)) -> Vec<Vec<u8>> {
         frames.push(damaged);
     }
     let [low, high] = [right[body.len()], right[body.len() + 1]];
-    frames.push([body, &[high, low]].concat());
+    if low != high {
+        frames.push([body, &[high, low]].concat());
+    }
     frames.push(body.to_vec());
     // Too short for a frame, and the longest.
     frames.extend([1, 2, 3, 256].map(|length| random.bytes(length)));
