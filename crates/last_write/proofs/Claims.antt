@@ -10,17 +10,17 @@ use borrow.Author.Tests.{eqb-true, eqb-false, eq-eqb}
 use lib.Dec.{eqb}
 use lib.IntN.{ℤ}
 use lib.ListN.{length, replicate, length-replicate}
-use Rattle.numbers.specs.Numbers.{none, leastBuffer, badSetting}
+use Rattle.numbers.specs.Numbers.{none, leastBuffer}
 use Rattle.numbers.proofs.Tests.{contrary}
-use Rattle.numbers.proofs.Order.{passed, is-refused, is-done}
+use Rattle.numbers.proofs.Order.{is-refused, is-done}
 use Rattle.items.specs.ItemList.{items, listed, itemAt}
 use Rattle.items.proofs.Lookup.{listed-place}
-use Rattle.table.specs.Table.{noSuchItem, startValues, entry}
+use Rattle.table.specs.Table.{startValues, entry}
 use Rattle.writes.specs.declared.Given.{Given}
 use Rattle.writes.specs.declared.Given.the-variants.{Nothing}
 use Rattle.writes.specs.Writes.{over}
 use Rattle.rtu.specs.Frame.{isAddress}
-use Rattle.capture.specs.Format.{badCapture, begins, recordEnds, trailerBegins, trailerRight, count, captureFault, frames}
+use Rattle.capture.specs.Format.{begins, recordEnds, trailerBegins, trailerRight, count, captureFault, frames}
 use Rattle.capture.proofs.Walk.{sound}
 use Rattle.playback.specs.Playback.{playNumber, played}
 use Rattle.playback.specs.Written.{lastWrite}
@@ -31,7 +31,7 @@ use Rattle.last_write.specs.LastWrite.{Question, isValue, placeAfter, wr
 use Rattle.last_write.specs.LastWrite.{askNumber, lastWritten, recordsRead, Answers, Askable}
 use Rattle.last_write.specs.Claims.{framesRead, recordsFrom, OfWellFormed, OfLastWrite}
 use Rattle.last_write.proofs.First.{first-is}
-use Rattle.last_write.proofs.Walked.{one-further, by-frame, no-record, found-at, is-answer}
+use Rattle.last_write.proofs.Walked.{one-further, by-frame, no-record, found-at, askable, is-answer}
 use Rattle.last_write.proofs.Frames.{no-value, Stopped, stops, agrees}
 use Rattle.last_write.proofs.Front.{answered-alike}
 
@@ -91,15 +91,6 @@ module _ (q : Question) (c : List ℕ) (a : isAddress (q .address) ≡ true) (i 
 -- ---- any capture
 
 module _ (q : Question) (c : List ℕ) where
-  -- what is known of a question that is answered
-  askable : askNumber q c ≡ none → Askable q c
-  unfolding askNumber
-  askable e =
-      let a = passed (isAddress (q .address)) badSetting _ (omega arith) e in
-      let i = passed (listed (q .item)) noSuchItem _ (omega arith) (a .1) in
-      let t = passed (trailerRight c) badCapture _ (omega arith) (i .1) in
-      record { address = a .0; item = i .0; trailer = t .0 }
-
   -- where a value is told, it is one that was found
   told : isValue (lastWritten q c) ≡ true → (askNumber q c ≡ none) × (lastWritten q c ≡ writeFound q c)
   unfolding lastWritten
@@ -142,7 +133,7 @@ module _ (q : Question) (c : List ℕ) where
       → (askNumber q d ≡ askNumber q c) × (lastWritten q d ≡ lastWritten q c) × (recordsRead q d ≡ recordsRead q c)
   unseen v d place right same =
       let t = told v in
-      let a = askable (t .0) in
+      let a = askable q c (t .0) in
       let at = at-last q c in
       let n = stopped q c .passed in
       let value : isValue (writeFound q c) ≡ true = ap isValue (sym (t .1)) ∙ v in

@@ -4,12 +4,20 @@ use mathlib.Core.Path.{_≡_, refl, ap}
 use mathlib.Core.Bool.{Bool, true, false, cond}
 use Prim.Native.Nat.{ℕ, zero, suc, _≤_, _<_}
 use native.Mathlib.Omega.{arith}
+use Rattle.numbers.proofs.Tests.{chosen}
 use Rattle.last_write.specs.LastWrite.{firstBelow}
 
 -- a number is the first of which a test holds
 pub record Earliest (test : ℕ → Bool) (n : ℕ) : Type 0 where
   pub holds : test n ≡ true
   pub before : (k : ℕ) → k < n → test k ≡ false
+
+-- none is past the bound
+pub first-within : (bound : ℕ) (test : ℕ → Bool) → firstBelow bound test ≤ bound
+first-within zero test = omega arith
+first-within (suc bound) test =
+    let few = first-within bound (λ n. test (suc n)) in
+    chosen (λ (n : ℕ). n ≤ suc bound) (test 0) (λ _. omega arith) (λ _. omega arith)
 
 -- it is found below any bound that is not below it
 pub first-is : (bound : ℕ) (test : ℕ → Bool) (n : ℕ) → n ≤ bound → Earliest test n → firstBelow bound test ≡ n

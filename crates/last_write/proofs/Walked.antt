@@ -11,18 +11,19 @@ use borrow.Author.Tests.{lt-leb, eq-eqb, ne-eqb, eqb-true}
 use lib.Dec.{eqb, leb}
 use lib.ListN.{length}
 use Rattle.numbers.specs.Numbers.{none, unless, badSetting}
-use Rattle.numbers.proofs.Order.{last-met, is-refused, is-done}
+use Rattle.numbers.proofs.Tests.{chosen}
+use Rattle.numbers.proofs.Order.{last-met, passed, is-refused, is-done, either-way}
 use Rattle.items.specs.ItemList.{listed}
 use Rattle.table.specs.Table.{noSuchItem}
 use Rattle.writes.specs.declared.Given.{Given}
 use Rattle.writes.specs.declared.Given.the-variants.{Nothing}
 use Rattle.rtu.specs.Frame.{isAddress}
-use Rattle.capture.specs.Format.{badCapture, longestFrame, sizeBytes, size, begins, recordEnds, frameBefore, trailerBegins, trailerRight, count}
-use Rattle.capture.proofs.Walk.{ends}
+use Rattle.capture.specs.Format.{badCapture, longestCapture, longestFrame, sizeBytes, size, begins, recordEnds, frameBefore, trailerBegins, trailerRight, count}
+use Rattle.capture.proofs.Walk.{ends, begun}
 use Rattle.playback.specs.Written.{wrote}
 use Rattle.last_write.specs.LastWrite.{Question, isValue, placeAfter, writtenBefore, stopsAt, passedOver, stop, writeFound, undamaged}
 use Rattle.last_write.specs.LastWrite.{askNumber, lastWritten, recordsRead, Answers, refusedBy, Askable}
-use Rattle.last_write.proofs.First.{Earliest, first-is}
+use Rattle.last_write.proofs.First.{Earliest, first-within, first-is}
 
 -- ---- one record
 
@@ -103,6 +104,25 @@ module _ (q : Question) (c : List ℕ) where
     pub no-trailer : listed (q .item) ≡ true → trailerRight c ≡ false → Answers q c (refusedBy badCapture)
     unfolding askNumber
     no-trailer i t = no-answer q c (rw (a, i, t)) (λ z. omega arith)
+
+  -- what is known of a question that is answered
+  pub askable : askNumber q c ≡ none → Askable q c
+  unfolding askNumber
+  askable e =
+      let a = passed (isAddress (q .address)) badSetting _ (omega arith) e in
+      let i = passed (listed (q .item)) noSuchItem _ (omega arith) (a .1) in
+      let t = passed (trailerRight c) badCapture _ (omega arith) (i .1) in
+      record { address = a .0; item = i .0; trailer = t .0 }
+
+  -- few enough records are read for 32 bits
+  pub read-small : recordsRead q c ≤ longestCapture + 1
+  unfolding recordsRead passedOver
+  read-small =
+      either-way (askNumber q c) (λ number. 0) (cond (isValue (writeFound q c)) (suc (passedOver q c)) (passedOver q c))
+      (λ (n : ℕ). n ≤ longestCapture + 1) (λ _. omega arith) (λ e.
+      let short = begun c (askable e .trailer) .short in
+      let few = first-within (length c) (λ n. stopsAt q c (placeAfter c (trailerBegins c) n)) in
+      chosen (λ (n : ℕ). n ≤ longestCapture + 1) (isValue (writeFound q c)) (λ _. omega arith) (λ _. omega arith))
 
 module _ (q : Question) (c : List ℕ) (a : Askable q c) where
   number-by : askNumber q c ≡ unless (undamaged q c) badCapture

@@ -3,6 +3,7 @@
 use mathlib.Core.Path.{_≡_, refl}
 use mathlib.Core.List.{List}
 use Prim.Native.Nat.{ℕ}
+use lib.IntN.{ℤ}
 use Rattle.numbers.specs.Promise.{OneOutcome}
 use Rattle.numbers.proofs.Single.{single, _&_, lent-single}
 use Rattle.rkc.specs.Outcome.{Step}
@@ -72,5 +73,20 @@ show =
           & refl
           & single {A = ℕ} (p .place) (q .place)
           & single {A = ℕ} (p .len) (q .len)
+          & refl;
+    }
+
+-- the last write: the number with whether one was found, the value and the records read
+pub last-write : OneOutcome panel.vb_last_write.ended panel.vb_last_write.Reads.Asked panel.vb_last_write.Reads.Post
+last-write =
+    record {
+      asksNothing = λ κs a. tt;
+      single = λ κs a o u p q.
+          single {A = ℕ} (p .given) (q .given)
+          & refl
+          & refl
+          & refl
+          & single {A = ℤ} (p .written) (q .written)
+          & single {A = ℕ} (p .read) (q .read)
           & refl;
     }

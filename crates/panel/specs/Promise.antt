@@ -1,14 +1,16 @@
 -- What the promises of the C face say of a result and of all that was lent, as it is left.
 use Prim.Native.Nat.{ℕ, _≤_}
-use mathlib.Core.Bool.{false}
+use mathlib.Core.Bool.{false, cond}
 use mathlib.Core.Path.{_≡_}
 use mathlib.Core.List.{List}
-use lib.IntN.{ℤ}
+use lib.IntN.{ℤ, pos}
 use lib.ListN.{length}
 use lib.Seq.{sets}
 use Rattle.rkc.specs.declared.Stepped.{Stepped}
 use Rattle.rkc.specs.Outcome.{Step, Outcome}
 use Rattle.state.specs.State.{stateBytes}
+use Rattle.writes.specs.Writes.{over}
+use Rattle.last_write.specs.LastWrite.{Question, isValue, askNumber, lastWritten, recordsRead}
 use Rattle.panel.specs.Calls.{result, isCallFault, heldAfter}
 
 -- a bound that no reply of either line is over, so that its length has room in a result
@@ -36,3 +38,10 @@ pub record StepLeft (step : Step) (r : ℕ) (state held before after : List ℕ)
 pub record ByteLeft (outcome : Outcome) (r : ℕ) (state held before after : List ℕ) (table : List ℤ) : Type 0 where
   pub step : StepLeft (outcome .step) r state held before after
   pub left : table ≡ outcome .table
+
+-- what is told of the last write to an item: the number, and 256 more where a write was found; its value, 0 where none was; and how many
+-- records were read
+pub record Told (q : Question) (c : List ℕ) (r : ℕ) (value : ℤ) (records : ℕ) : Type 0 where
+  pub given : r ≡ result (askNumber q c) (cond (isValue (lastWritten q c)) 1 0)
+  pub written : value ≡ over (pos 0) (lastWritten q c)
+  pub read : records ≡ recordsRead q c

@@ -14,9 +14,10 @@ ghost use Rattle.rtu.specs.Promise.{Acts};
 ghost use Rattle.capture.specs.Show.{Shows};
 ghost use Rattle.playback.specs.Playback.{playNumber, played};
 ghost use Rattle.panel.specs.Calls.{result, answerIn, isCallFault, linkStartNumber, linkStart, textNumber, textLeft};
-ghost use Rattle.panel.specs.Promise.{longestReply, Holdable, Held, StepLeft, ByteLeft};
+ghost use Rattle.panel.specs.Promise.{longestReply, Holdable, Held, StepLeft, ByteLeft, Told};
 use rkc::Link;
 use rkc::Stepped;
+use writes::Given;
 
 // The number given back for a state of another length.
 const BAD_STATE: u32 = 5;
@@ -197,4 +198,31 @@ pub extern "C" fn vb_show(capture: &[u8], frame: u32, place: &mut u32, length: &
     *place = shown.place as u32;
     *length = shown.len as u32;
     shown.number as u32
+}
+
+// What was last written to an item, by the value and the records that it sets; 256 more where a write was found.
+#[no_mangle]
+pub extern "C" fn vb_last_write(
+    capture: &[u8],
+    address: u8,
+    item: u32,
+    value: &mut i32,
+    records: &mut u32,
+) -> u32
+    ensures { λ r. ⌜ Told (record { address = address; item = item }) (now (capture .entry))
+        r (now (value .exit)) (now (records .exit)) ⌝ }
+{
+    let answer = last_write::ask(capture, address, item);
+    *records = answer.records as u32;
+    let written = answer.written;
+    match written {
+        Given::Value(v) => {
+            *value = v;
+            result(answer.number, 1)
+        }
+        Given::Nothing => {
+            *value = 0;
+            result(answer.number, 0)
+        }
+    }
 }
