@@ -1,13 +1,9 @@
 // Runs the worked examples of documents 01 and 02, of the manuals 000, 002, 003 and 004 and of the Modbus documents through the
 // library and writes a line for each: the example, and what comes of it. An example that more than one document prints stands where
-// it comes first.
-mod captures;
+// it comes first. Those of captures have a program of their own, `capture_vectors`.
 mod modbus_rtu;
 mod rkc_line;
-mod show;
 
-use captures::frame;
-use captures::playback;
 use modbus_rtu::ask;
 use modbus_rtu::ask_with_m1;
 use modbus_rtu::crc;
@@ -140,21 +136,6 @@ fn modbus_documents() {
     pdu(b"\x10\x00\x10\x00\x03\x06\xFF\x6A\x03\xE8\x00\x64");
 }
 
-// From the words of document 02, 3/14: a capture with no record; two writes to the offset, and one to a register that the map does not
-// have, played back and shown; and a trailer that counts one record too many.
-fn captures_of_document_02() {
-    let three_writes =
-        b"\x01\x06\x00\x10\x01\x02\x08\x5E\x00\x08\x01\x06\x00\x10\xFF\x6A\x49\xD0\x00\x08\x01\x06\x00\xF4\x00\x32\x49\xED\x00\x08\x00\x03\x00\x00\x00\x14";
-    playback(1, b"\x00\x00\x00\x00\x00\x00");
-    playback(1, three_writes);
-    frame(2, three_writes);
-    frame(4, three_writes);
-    playback(
-        1,
-        b"\x01\x06\x00\x10\x01\x02\x08\x5E\x00\x08\x00\x02\x00\x00\x00\x00",
-    );
-}
-
 fn main() {
     edges_of_reading();
     edges_of_other_ranges();
@@ -165,5 +146,4 @@ fn main() {
     documents_002_and_003();
     document_004();
     modbus_documents();
-    captures_of_document_02();
 }

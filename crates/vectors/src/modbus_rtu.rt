@@ -1,6 +1,5 @@
 // The examples of registers, CRC and Modbus RTU. Each public function writes the line of one example.
 ghost use Prim.Native.Nat.{_<_};
-use crate::show;
 use modbus::Answered;
 
 // The numbers of the items that the firmware puts: the measured value, and the set value, whose range has every value of the examples.

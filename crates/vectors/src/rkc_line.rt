@@ -1,5 +1,4 @@
 // The examples of number text and of the RKC line. Each public function writes the line of one example.
-use crate::show;
 use line::EOT;
 use line::ETX;
 use line::STX;

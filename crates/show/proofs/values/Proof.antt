@@ -3,8 +3,8 @@ use Prim.Native.Nat.{_-_}
 use mathlib.Core.Path.{_≡_}
 use borrow.Author.Needs.{needs}
 use lib.ListN.{length}
-use Rattle.vectors.proofs.show.values.Statement.{statement}
-use Rattle.vectors.proofs.show.values.Tie as tie
+use Rattle.show.proofs.values.Statement.{statement}
+use Rattle.show.proofs.values.Tie as tie
 
 abbrev Inv-loop : tie.InvT-loop
 Inv-loop values i₀ i-end i = i-end ≡ length values

@@ -1,4 +1,5 @@
-// Lines of text on standard output. Bytes, numbers, values and quotes come with a space before them.
+// Lines of text on standard output, for the programs that run worked examples. Bytes, numbers, values and quotes come with a space
+// before them.
 ghost use Prim.Native.Nat.{_<_};
 use libc::STDOUT_FILENO;
 
@@ -58,9 +59,13 @@ pub fn quoted(chars: &[u8]) {
     text(b"\"");
 }
 
-pub fn number(number: u8) {
+pub fn count(n: usize) {
     text(b" ");
-    io::print_decimal(STDOUT_FILENO, number as u64);
+    io::print_decimal(STDOUT_FILENO, n as u64);
+}
+
+pub fn number(number: u8) {
+    count(number as usize);
 }
 
 pub fn value(value: i32) {

@@ -3,8 +3,8 @@ use Prim.Native.Nat.{_-_}
 use mathlib.Core.Path.{_≡_}
 use borrow.Author.Needs.{needs}
 use lib.ListN.{length}
-use Rattle.vectors.proofs.show.part.Statement.{statement}
-use Rattle.vectors.proofs.show.part.Tie as tie
+use Rattle.show.proofs.part.Statement.{statement}
+use Rattle.show.proofs.part.Tie as tie
 
 abbrev Inv-loop : tie.InvT-loop
 Inv-loop bytes from to i₀ i-end i = i-end ≡ length bytes
