@@ -120,38 +120,33 @@ module _ (q : Question) (c : List ℕ) where
       by true e = by-frame q c end e ∙ read-only-writes (q .address) _ (q .item - 1) r
       by false e = no-record q c end e
 
-  read-only : itemAt (q .item - 1) .writable ≡ false → lastWritten q c ≡ Nothing
-  read-only r = no-value (lastWritten q c) (by (isValue (lastWritten q c)) refl)
+  -- nothing is told that was not found
+  not-told : writeFound q c ≡ Nothing → lastWritten q c ≡ Nothing
+  not-told e = no-value (lastWritten q c) (by (isValue (lastWritten q c)) refl)
     where
       by : (b : Bool) → isValue (lastWritten q c) ≡ b → b ≡ false
       by false v = refl
-      by true v = contrary (sym v ∙ ap isValue (told v .1 ∙ read-only-before r (stop q c)))
-
-  -- a capture with the same records from the answering one on gets the same answer
-  unseen : isValue (lastWritten q c) ≡ true → (d : List ℕ) (place : ℕ) → trailerRight d ≡ true
-      → recordsFrom place d ≡ recordsFrom (begins c (stop q c)) c
-      → (askNumber q d ≡ askNumber q c) × (lastWritten q d ≡ lastWritten q c) × (recordsRead q d ≡ recordsRead q c)
-  unseen v d place right same =
-      let t = told v in
-      let a = askable q c (t .0) in
-      let at = at-last q c in
-      let n = stopped q c .passed in
-      let value : isValue (writeFound q c) ≡ true = ap isValue (sym (t .1)) ∙ v in
-      let ended = rw (at .1) at (value-ends (stop q c) value) in
-      let begin = ap (begins c) (at .1) ∙ sym (one-further c n (trailerBegins c)) in
-      let there =
-      answered-alike q c d n place (stopped q c .first) ended (same ∙ ap (λ (p : ℕ). recordsFrom p c) begin)
-      (record { address = a .address; item = a .item; trailer = right }) (ap (writtenBefore q c) (at .1)) value in
-      let here = is-answer q c a {n = n + 1} (rw value) refl (rw (value, at .0, add-one n)) in
-      (sym (there .given) ∙ here .given, sym (there .written) ∙ here .written, sym (there .read) ∙ here .read)
+      by true v = contrary (sym v ∙ ap isValue (told v .1 ∙ e))
 
 pub last-write-claimed : (q : Question) (c : List ℕ) → OfLastWrite q c
 unfolding passedOver
 last-write-claimed q c =
     record {
       wellFormed = well-formed q c;
-      frontUnseen = unseen q c;
-      readOnlyNever = read-only q c;
+      frontUnseen = λ v d place right same.
+          let t = told q c v in
+          let a = askable q c (t .0) in
+          let at = at-last q c in
+          let n = stopped q c .passed in
+          let value : isValue (writeFound q c) ≡ true = ap isValue (sym (t .1)) ∙ v in
+          let ended = rw (at .1) at (value-ends q c (stop q c) value) in
+          let begin = ap (begins c) (at .1) ∙ sym (one-further c n (trailerBegins c)) in
+          let there =
+          answered-alike q c d n place (stopped q c .first) ended (same ∙ ap (λ (p : ℕ). recordsFrom p c) begin)
+          (record { address = a .address; item = a .item; trailer = right }) (ap (writtenBefore q c) (at .1)) value in
+          let here = is-answer q c a {n = n + 1} (rw value) refl (rw (value, at .0, add-one n)) in
+          (sym (there .given) ∙ here .given, sym (there .written) ∙ here .written, sym (there .read) ∙ here .read);
+      readOnlyNever = λ r. not-told q c (read-only-before q c r (stop q c));
       stopsInTime = λ bound h.
           first-is bound _ (stopped q c .passed) (omega (arith, in-time q c)) (stopped q c .first) ∙ sym (at-last q c .0);
     }

@@ -20,7 +20,7 @@ abbrev μ-loop : tie.MeasureT-loop
 μ-loop capture address item place records₀ end₀ records end = end
 
 sub-place : tie.Need-sub-place Inv-loop μ-loop
-sub-place c = listed-place _ (c .before .pre .item) .0
+sub-place c = let some = listed-place (c .before .args .item) (c .before .pre .item) .0 in omega arith
 
 trailer-begins-requires : tie.Need-trailer-begins-requires Inv-loop μ-loop
 trailer-begins-requires c κs = tt
