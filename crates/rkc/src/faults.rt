@@ -3,7 +3,6 @@ ghost use mathlib.Core.Path.{_≡_};
 ghost use mathlib.Core.List.{[], _∷_};
 ghost use lib.Dec.{leb};
 ghost use Rattle.numbers.specs.Numbers.{firstMet};
-ghost use Rattle.items.specs.ItemList.{listed};
 ghost use Rattle.table.specs.Table.{tableFault};
 ghost use Rattle.line.specs.Line.{lastStructure};
 ghost use Rattle.rkc.specs.State.{allCharacters, blockInLimits, inLimits};
@@ -40,13 +39,6 @@ fn all_characters(chars: &[u8]) -> bool
     true
 }
 
-// Whether an item is one of the list.
-fn listed(item: u8) -> bool
-    ensures { λ r. ⌜ r ≡ listed item ⌝ }
-{
-    1 <= item && item as usize <= items::ITEMS
-}
-
 // Whether address and structure are ones that a line has.
 fn good_settings(address: u8, structure: u8) -> bool
     ensures { λ r. ⌜ r ≡ goodSettings address structure ⌝ }
@@ -73,7 +65,7 @@ impl Link {
         match phase {
             ONE_CHARACTER => kept[0] < TOP_BIT,
             TWO_CHARACTERS => kept[0] < TOP_BIT && kept[1] < TOP_BIT,
-            WAITING => listed(self.item),
+            WAITING => items::listed(self.item as u32),
             TEXT..=BCC_DUE => self.block_in_limits(),
             _ => phase <= ANSWERED,
         }

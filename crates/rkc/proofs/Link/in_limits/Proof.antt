@@ -17,6 +17,9 @@ array-read-if1 c = search needs
 array-read-result-2 : tie.Need-array-read-result-2
 array-read-result-2 c = search needs
 
+cast-listed : tie.Need-cast-listed
+cast-listed c = search needs
+
 listed-requires : tie.Need-listed-requires
 listed-requires c κs = search needs
 
@@ -37,7 +40,7 @@ returns-3 c = rw (c .before .match .keys2) (simp (le-ltb _ _ (c .if1 .left)))
 
 returns-4 : tie.Need-returns-4
 unfolding inLimits
-returns-4 c = rw (c .before .match .keys3) (c .listed .ensures)
+returns-4 c = rw (c .before .before .match .keys3) (c .listed .ensures)
 
 returns-5 : tie.Need-returns-5
 unfolding inLimits
@@ -62,6 +65,7 @@ in-limits-spec =
     array-read-result
     array-read-if1
     array-read-result-2
+    cast-listed
     listed-requires
     block-in-limits-requires
     returns
