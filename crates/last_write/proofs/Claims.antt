@@ -20,15 +20,15 @@ use Rattle.writes.specs.declared.Given.{Given}
 use Rattle.writes.specs.declared.Given.the-variants.{Nothing}
 use Rattle.writes.specs.Writes.{over}
 use Rattle.rtu.specs.Frame.{isAddress}
-use Rattle.capture.specs.Format.{begins, recordEnds, trailerBegins, trailerRight, count, captureFault, frames}
+use Rattle.capture.specs.Format.{begins, recordEnds, trailerBegins, count, captureFault, frames}
 use Rattle.capture.proofs.Walk.{sound}
-use Rattle.playback.specs.Playback.{playNumber, played}
+use Rattle.playback.specs.Playback.{played}
 use Rattle.playback.specs.Written.{lastWrite}
 use Rattle.playback.proofs.Frames.{start-fine, handed-writes, read-only-writes}
 use Rattle.playback.proofs.Played.{play-capture}
 use Rattle.playback.proofs.Claims.{playback-claimed}
-use Rattle.last_write.specs.LastWrite.{Question, isValue, placeAfter, writtenBefore, stopsAt, passedOver, stop, writeFound, undamaged}
-use Rattle.last_write.specs.LastWrite.{askNumber, lastWritten, recordsRead, Answers, Askable}
+use Rattle.last_write.specs.LastWrite.{Question, isValue, placeAfter, writtenBefore, passedOver, stop, writeFound, undamaged}
+use Rattle.last_write.specs.LastWrite.{askNumber, lastWritten, Answers}
 use Rattle.last_write.specs.Claims.{framesRead, recordsFrom, OfWellFormed, OfLastWrite}
 use Rattle.last_write.proofs.First.{first-is}
 use Rattle.last_write.proofs.Walked.{one-further, by-frame, no-record, found-at, askable, is-answer}

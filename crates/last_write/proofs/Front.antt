@@ -1,7 +1,7 @@
 -- Two captures that have the same records from the answering one on: the walk back over the one is that over the other.
 -- Assumes nothing.
-use mathlib.Core.Path.{_≡_, refl, sym, ap, _∙_}
-use mathlib.Core.Bool.{true, false, _&&_}
+use mathlib.Core.Path.{_≡_, sym, ap, _∙_}
+use mathlib.Core.Bool.{true}
 use mathlib.Core.List.{List}
 use Prim.Native.Nat.{ℕ, zero, suc, _+_, _-_, _≤_, _<_}
 use native.Mathlib.Numerals.{add-one}
@@ -12,7 +12,7 @@ use lib.Seq.{getD-take, getD-drop, drop-drop, ext-getD}
 use Rattle.numbers.specs.Numbers.{none}
 use Rattle.writes.specs.declared.Given.{Given}
 use Rattle.capture.specs.Format.{longestFrame, twoAt, size, begins, recordEnds, frameBefore, trailerBegins}
-use Rattle.capture.proofs.Walk.{Ends, ends}
+use Rattle.capture.proofs.Walk.{ends}
 use Rattle.last_write.specs.LastWrite.{Question, isValue, placeAfter, writtenBefore, stopsAt, Answers, Askable}
 use Rattle.last_write.specs.Claims.{recordsFrom}
 use Rattle.last_write.proofs.First.{Earliest}

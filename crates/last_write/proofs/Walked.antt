@@ -7,7 +7,7 @@ use Prim.Native.Nat.{ℕ, zero, suc, _+_, _-_, _≤_, _<_}
 use native.Mathlib.Numerals.{add-one}
 use native.Mathlib.Omega.{arith}
 use borrow.Author.Count.{below-more}
-use borrow.Author.Tests.{lt-leb, eq-eqb, ne-eqb, eqb-true}
+use borrow.Author.Tests.{lt-leb}
 use lib.Dec.{eqb, leb}
 use lib.ListN.{length}
 use Rattle.numbers.specs.Numbers.{none, unless, badSetting}

@@ -1,5 +1,5 @@
 -- `capture::fault` meets its contract: a walk back can begin and reaches place 0, or one of the two fails. Assumes nothing.
-use mathlib.Core.Path.{_≡_, sym, _∙_}
+use mathlib.Core.Path.{sym, _∙_}
 use mathlib.Core.Logic.{⊎-elim}
 use Rattle.capture.proofs.Walk.{fault-reached}
 use borrow.Author.Needs.{needs}
