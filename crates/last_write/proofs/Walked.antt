@@ -21,7 +21,7 @@ use Rattle.rtu.specs.Frame.{isAddress}
 use Rattle.capture.specs.Format.{badCapture, longestCapture, longestFrame, sizeBytes, size, begins, recordEnds, frameBefore, trailerBegins, trailerRight, count}
 use Rattle.capture.proofs.Walk.{ends, begun}
 use Rattle.playback.specs.Written.{wrote}
-use Rattle.last_write.specs.LastWrite.{Question, isValue, placeAfter, writtenBefore, stopsAt, passedOver, stop, writeFound, undamaged}
+use Rattle.last_write.specs.LastWrite.{Question, isValue, placeAfter, writtenBefore, stopsAt, passedOver, stop, writeFound, distance, undamaged}
 use Rattle.last_write.specs.LastWrite.{askNumber, lastWritten, recordsRead, Answers, refusedBy, Askable}
 use Rattle.last_write.proofs.First.{Earliest, first-within, first-is}
 
@@ -87,7 +87,7 @@ no-answer q c e h =
     record {
       given = sym e;
       written = sym (is-refused (askNumber q c) (λ number. Nothing) (writeFound q c) met);
-      read = sym (is-refused (askNumber q c) (λ number. 0) (cond (isValue (writeFound q c)) (suc (passedOver q c)) (passedOver q c)) met);
+      read = sym (is-refused (askNumber q c) (λ number. 0) (distance q c) met);
     }
 
 -- the address, the item, and where a walk can't begin
@@ -118,8 +118,8 @@ module _ (q : Question) (c : List ℕ) where
   pub read-small : recordsRead q c ≤ longestCapture + 1
   unfolding recordsRead passedOver
   read-small =
-      either-way (askNumber q c) (λ number. 0) (cond (isValue (writeFound q c)) (suc (passedOver q c)) (passedOver q c))
-      (λ (n : ℕ). n ≤ longestCapture + 1) (λ _. omega arith) (λ e.
+      either-way (askNumber q c) (λ number. 0) (distance q c) (λ (n : ℕ). n ≤ longestCapture + 1) (λ _. omega arith)
+      (λ e.
       let short = begun c (askable e .trailer) .short in
       let few = first-within (length c) (λ n. stopsAt q c (placeAfter c (trailerBegins c) n)) in
       chosen (λ (n : ℕ). n ≤ longestCapture + 1) (isValue (writeFound q c)) (λ _. omega arith) (λ _. omega arith))
@@ -138,8 +138,7 @@ module _ (q : Question) (c : List ℕ) (a : Askable q c) where
       record {
         given = sym met;
         written = sym (is-done (askNumber q c) (λ number. Nothing) (writeFound q c) met ∙ f);
-        read =
-            sym (is-done (askNumber q c) (λ number. 0) (cond (isValue (writeFound q c)) (suc (passedOver q c)) (passedOver q c)) met ∙ rw f r);
+        read = sym (is-done (askNumber q c) (λ number. 0) (distance q c) met ∙ rw f r);
       }
 
   module _ {n end : ℕ} (w : Walked q c n end) where
@@ -160,7 +159,7 @@ module _ (q : Question) (c : List ℕ) (a : Askable q c) where
         let f : writeFound q c ≡ g = ap (writtenBefore q c) (at .1) ∙ there in
         is-answer (rw (f, v)) f (rw (v, at .0, add-one n))
 
-    -- no record ends here: nothing is writeFound, and whether all were read decides
+    -- no record ends here: nothing is found, and whether all were read decides
     module _ (r : recordEnds c end ≡ false) where
       at-end : (passedOver q c ≡ n) × (stop q c ≡ end)
       at-end = stops-here (rw r)

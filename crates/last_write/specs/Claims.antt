@@ -17,8 +17,8 @@ use Rattle.playback.specs.Written.{lastWrite}
 use Rattle.last_write.specs.LastWrite.{Question, isValue, firstBelow, placeAfter, stopsAt, passedOver, stop}
 use Rattle.last_write.specs.LastWrite.{askNumber, lastWritten, recordsRead}
 
--- how many frames there are from the end of all up to the last one that writes to an item, both counted, or all where none does: where
--- one behind the first writes to it the first makes no difference, and else all are counted
+-- how many frames there are from the end up to the last one that writes to an item, both counted, or all where none does. So the first of
+-- all is not counted where one behind it writes to the item, and else all are.
 abbrev pub framesRead : ℕ → List (List ℕ) → ℕ → ℕ
 framesRead address [] i = 0
 framesRead address (f ∷ fs) i = cond (isValue (lastWrite address fs i)) (framesRead address fs i) (suc (length fs))
@@ -27,11 +27,10 @@ framesRead address (f ∷ fs) i = cond (isValue (lastWrite address fs i)) (frame
 abbrev pub recordsFrom : ℕ → List ℕ → List ℕ
 recordsFrom place c = drop place (take (trailerBegins c) c)
 
--- of a well-formed capture, asked at an address for an item that there are
+-- of a well-formed capture, and a question with an address that a device can have and a number that an item has
 pub record OfWellFormed (q : Question) (c : List ℕ) : Type 0 where
   pub answered : askNumber q c ≡ none
-  -- the answer is what the last of its frames writes to the item that writes to it at all, and the records read are its distance from
-  -- the end
+  -- the answer is what full playback finds in its last write to the item, and the records read are that frame's distance from the end
   pub lastOfFrames : lastWritten q c ≡ lastWrite (q .address) (frames c) (q .item - 1)
   pub readOfFrames : recordsRead q c ≡ framesRead (q .address) (frames c) (q .item - 1)
   -- the table of playback holds that value at the end, and the start value where the item was never written
@@ -48,6 +47,6 @@ pub record OfLastWrite (q : Question) (c : List ℕ) : Type 0 where
       → (askNumber q d ≡ askNumber q c) × (lastWritten q d ≡ lastWritten q c) × (recordsRead q d ≡ recordsRead q c)
   -- a read-only item is never written
   pub readOnlyNever : itemAt (q .item - 1) .writable ≡ false → lastWritten q c ≡ Nothing
-  -- the walk stops before it has passed over more records than the capture has bytes: to look for a place further on finds no other
+  -- the walk stops before it has passed over more records than the capture has bytes: a search that goes on further finds no other place
   pub stopsInTime : (bound : ℕ) → length c ≤ bound
       → firstBelow bound (λ n. stopsAt q c (placeAfter c (trailerBegins c) n)) ≡ passedOver q c

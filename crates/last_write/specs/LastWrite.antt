@@ -20,6 +20,7 @@ pub record Question : Type 0 where
   pub address : ℕ
   pub item : ℕ
 
+-- a value is given, and not nothing
 abbrev pub isValue : Given → Bool
 isValue (Value v) = true
 isValue Nothing = false
@@ -44,7 +45,7 @@ writtenBefore q c end = cond (recordEnds c end) (wrote (q .address) (frameBefore
 abbrev pub stopsAt : Question → List ℕ → ℕ → Bool
 stopsAt q c end = not (recordEnds c end) || isValue (writtenBefore q c end)
 
--- how many records it passes over until it stops: fewer than the capture has bytes, since each record has some
+-- how many records it passes over until it stops: fewer than the capture has bytes, since each of them has some
 unfoldable pub passedOver : Question → List ℕ → ℕ
 passedOver q c = firstBelow (length c) (λ n. stopsAt q c (placeAfter c (trailerBegins c) n))
 
@@ -55,6 +56,10 @@ stop q c = placeAfter c (trailerBegins c) (passedOver q c)
 -- what it finds: what the record there writes to the item
 abbrev pub writeFound : Question → List ℕ → Given
 writeFound q c = writtenBefore q c (stop q c)
+
+-- the distance from the end to the record that answers, both counted, and where none does all that were passed over
+abbrev pub distance : Question → List ℕ → ℕ
+distance q c = cond (isValue (writeFound q c)) (suc (passedOver q c)) (passedOver q c)
 
 -- it has met no damage where a frame answers, or where it has reached place 0 after as many records as the trailer says
 abbrev pub undamaged : Question → List ℕ → Bool
@@ -76,9 +81,9 @@ askNumber q c =
 unfoldable pub lastWritten : Question → List ℕ → Given
 lastWritten q c = unlessMet (askNumber q c) (λ number. Nothing) (writeFound q c)
 
--- the records read, from the end up to the one that answers, both counted, or all where none does; none where a number is met
+-- the records read: the distance, and none where a number is met
 unfoldable pub recordsRead : Question → List ℕ → ℕ
-recordsRead q c = unlessMet (askNumber q c) (λ number. 0) (cond (isValue (writeFound q c)) (suc (passedOver q c)) (passedOver q c))
+recordsRead q c = unlessMet (askNumber q c) (λ number. 0) (distance q c)
 
 -- the promise of an answer
 pub record Answers (q : Question) (c : List ℕ) (r : Answer) : Type 0 where
