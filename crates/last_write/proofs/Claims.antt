@@ -11,8 +11,8 @@ use lib.Dec.{eqb}
 use lib.IntN.{ℤ}
 use lib.ListN.{length, replicate, length-replicate}
 use Rattle.numbers.specs.Numbers.{none, leastBuffer}
-use Rattle.numbers.proofs.Tests.{contrary}
-use Rattle.numbers.proofs.Order.{is-refused, is-done}
+use Rattle.numbers.proofs.Tests.{contrary, chosen}
+use Rattle.numbers.proofs.Order.{is-refused, is-done, either-way}
 use Rattle.items.specs.ItemList.{items, listed, itemAt}
 use Rattle.items.proofs.Lookup.{listed-place}
 use Rattle.table.specs.Table.{startValues, entry}
@@ -20,7 +20,7 @@ use Rattle.writes.specs.declared.Given.{Given}
 use Rattle.writes.specs.declared.Given.the-variants.{Nothing}
 use Rattle.writes.specs.Writes.{over}
 use Rattle.rtu.specs.Frame.{isAddress}
-use Rattle.capture.specs.Format.{begins, recordEnds, trailerBegins, count, captureFault, frames}
+use Rattle.capture.specs.Format.{begins, recordEnds, frameBefore, trailerBegins, count, captureFault, frames}
 use Rattle.capture.proofs.Walk.{sound}
 use Rattle.playback.specs.Playback.{played}
 use Rattle.playback.specs.Written.{lastWrite}
@@ -31,8 +31,8 @@ use Rattle.last_write.specs.LastWrite.{Question, isValue, placeAfter, wr
 use Rattle.last_write.specs.LastWrite.{askNumber, lastWritten, Answers}
 use Rattle.last_write.specs.Claims.{framesRead, recordsFrom, OfWellFormed, OfLastWrite}
 use Rattle.last_write.proofs.First.{first-is}
-use Rattle.last_write.proofs.Walked.{one-further, by-frame, no-record, found-at, askable, is-answer}
-use Rattle.last_write.proofs.Frames.{no-value, Stopped, stops, agrees}
+use Rattle.last_write.proofs.Walked.{one-further, no-record, found-at, askable, is-answer}
+use Rattle.last_write.proofs.Frames.{Stopped, stops, agrees}
 use Rattle.last_write.proofs.Front.{answered-alike}
 
 -- ---- where the walk from the trailer stops
@@ -114,19 +114,14 @@ module _ (q : Question) (c : List ℕ) where
 
   -- a read-only item is written by no record
   read-only-before : itemAt (q .item - 1) .writable ≡ false → (end : ℕ) → writtenBefore q c end ≡ Nothing
-  read-only-before r end = by (recordEnds c end) refl
-    where
-      by : (b : Bool) → recordEnds c end ≡ b → writtenBefore q c end ≡ Nothing
-      by true e = by-frame q c end e ∙ read-only-writes (q .address) _ (q .item - 1) r
-      by false e = no-record q c end e
+  unfolding writtenBefore
+  read-only-before r end =
+      chosen (λ (g : Given). g ≡ Nothing) (recordEnds c end) (λ _. read-only-writes (q .address) (frameBefore c end) (q .item - 1) r) (λ _. refl)
 
   -- nothing is told that was not found
   not-told : writeFound q c ≡ Nothing → lastWritten q c ≡ Nothing
-  not-told e = no-value (lastWritten q c) (by (isValue (lastWritten q c)) refl)
-    where
-      by : (b : Bool) → isValue (lastWritten q c) ≡ b → b ≡ false
-      by false v = refl
-      by true v = contrary (sym v ∙ ap isValue (told v .1 ∙ e))
+  unfolding lastWritten
+  not-told e = either-way (askNumber q c) (λ number. Nothing) (writeFound q c) (λ (g : Given). g ≡ Nothing) (λ _. refl) (λ _. e)
 
 pub last-write-claimed : (q : Question) (c : List ℕ) → OfLastWrite q c
 unfolding passedOver

@@ -22,7 +22,7 @@ use Rattle.last_write.proofs.Walked.{none-at-0, by-frame, no-record}
 
 -- ---- a value or nothing
 
-pub no-value : (g : Given) → isValue g ≡ false → g ≡ Nothing
+no-value : (g : Given) → isValue g ≡ false → g ≡ Nothing
 no-value (Value v) e = contrary e
 no-value Nothing e = refl
 
@@ -38,17 +38,17 @@ one-more false m n = refl
 -- ---- one frame more at the end: it answers, or the frames before it do
 
 module _ (address : ℕ) (f : List ℕ) (i : ℕ) where
-  pub last-answers : (fs : List (List ℕ)) → isValue (wrote address f i) ≡ true → lastWrite address (fs ++ (f ∷ [])) i ≡ wrote address f i
+  last-answers : (fs : List (List ℕ)) → isValue (wrote address f i) ≡ true → lastWrite address (fs ++ (f ∷ [])) i ≡ wrote address f i
   last-answers fs v = last-one-more address fs f i ∙ value-later (wrote address f i) (lastWrite address fs i) v
 
-  pub last-passed : (fs : List (List ℕ)) → wrote address f i ≡ Nothing → lastWrite address (fs ++ (f ∷ [])) i ≡ lastWrite address fs i
+  last-passed : (fs : List (List ℕ)) → wrote address f i ≡ Nothing → lastWrite address (fs ++ (f ∷ [])) i ≡ lastWrite address fs i
   last-passed fs e = last-one-more address fs f i ∙ rw e
 
-  pub read-answers : (fs : List (List ℕ)) → isValue (wrote address f i) ≡ true → framesRead address (fs ++ (f ∷ [])) i ≡ 1
+  read-answers : (fs : List (List ℕ)) → isValue (wrote address f i) ≡ true → framesRead address (fs ++ (f ∷ [])) i ≡ 1
   read-answers [] v = refl
   read-answers (g ∷ fs) v = rw (last-answers fs v, v) (read-answers fs v)
 
-  pub read-passed : (fs : List (List ℕ)) → wrote address f i ≡ Nothing
+  read-passed : (fs : List (List ℕ)) → wrote address f i ≡ Nothing
       → framesRead address (fs ++ (f ∷ [])) i ≡ suc (framesRead address fs i)
   read-passed [] e = refl
   read-passed (g ∷ fs) e =
@@ -57,7 +57,7 @@ module _ (address : ℕ) (f : List ℕ) (i : ℕ) where
 
 -- ---- where the walk stops
 
--- it stops at a place or goes on to the next record
+-- where it does not stop, a record ends that does not write the item
 module _ (q : Question) (c : List ℕ) (end : ℕ) where
   pub going-on : stopsAt q c end ≡ false → (recordEnds c end ≡ true) × (writtenBefore q c end ≡ Nothing)
   going-on = by (recordEnds c end) (isValue (writtenBefore q c end)) refl refl
@@ -68,7 +68,7 @@ module _ (q : Question) (c : List ℕ) (end : ℕ) where
       by true true r e s = contrary (sym (rw (r, e)) ∙ s)
       by true false r e s = (r, no-value (writtenBefore q c end) e)
 
-  -- before so many places have gone by as there are in front of it
+  -- a walk from there stops, after no more records than there are bytes in front of it
   pub record Stopped : Type 0 where
     pub passed : ℕ
     pub few : passed ≤ end

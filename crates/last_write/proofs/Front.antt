@@ -54,7 +54,7 @@ module _ (c : List ℕ) (p : ℕ) where
       let at : p + x - (s + 2) ≡ p + y = omega arith in
       rw (at, drop-drop y p (take (trailerBegins c) c)) (sym (part-cut s (p + y) (trailerBegins c) c (omega arith)))
 
--- where a walk is, it is never again
+-- a walk only goes toward the front
 module _ (c : List ℕ) where
   falls-from : (n end : ℕ) → placeAfter c end n ≤ end
   unfolding begins
