@@ -11,28 +11,28 @@ use lib.Dec.{eqb}
 use lib.IntN.{ℤ}
 use lib.ListN.{length, replicate, length-replicate}
 use Rattle.numbers.specs.Numbers.{none, leastBuffer}
-use Rattle.numbers.proofs.Tests.{contrary, chosen}
-use Rattle.numbers.proofs.Order.{is-refused, is-done, either-way}
+use Rattle.numbers.proofs.Tests.{contrary, both, chosen}
+use Rattle.numbers.proofs.Order.{test-held, is-refused, is-done, either-way}
 use Rattle.items.specs.ItemList.{items, listed, itemAt}
 use Rattle.items.proofs.Lookup.{listed-place}
 use Rattle.table.specs.Table.{startValues, entry}
 use Rattle.writes.specs.declared.Given.{Given}
 use Rattle.writes.specs.declared.Given.the-variants.{Nothing}
-use Rattle.writes.specs.Writes.{over}
+use Rattle.writes.specs.Writes.{isValue, over}
 use Rattle.rtu.specs.Frame.{isAddress}
-use Rattle.capture.specs.Format.{begins, recordEnds, frameBefore, trailerBegins, count, captureFault, frames}
-use Rattle.capture.proofs.Walk.{sound}
+use Rattle.capture.specs.Format.{badCapture, begins, recordEnds, frameBefore, trailerBegins, count, captureFault, frames}
+use Rattle.capture.proofs.Walk.{sound, fault-reached}
 use Rattle.playback.specs.Playback.{played}
 use Rattle.playback.specs.Written.{lastWrite}
 use Rattle.playback.proofs.Frames.{start-fine, handed-writes, read-only-writes}
 use Rattle.playback.proofs.Played.{play-capture}
 use Rattle.playback.proofs.Claims.{playback-claimed}
-use Rattle.last_write.specs.LastWrite.{Question, isValue, placeAfter, writtenBefore, passedOver, stop, writeFound, undamaged}
+use Rattle.last_write.specs.LastWrite.{Question, placeAfter, writtenBefore, passedOver, stop, writeFound, undamaged}
 use Rattle.last_write.specs.LastWrite.{askNumber, lastWritten, Answers}
 use Rattle.last_write.specs.Claims.{framesRead, recordsFrom, OfWellFormed, OfLastWrite}
 use Rattle.last_write.proofs.First.{first-is}
-use Rattle.last_write.proofs.Walked.{one-further, no-record, found-at, askable, is-answer}
-use Rattle.last_write.proofs.Frames.{Stopped, stops, agrees}
+use Rattle.last_write.proofs.Walked.{one-further, no-record, found-at, askable, number-by, is-answer}
+use Rattle.last_write.proofs.Frames.{going-on, Stopped, stops, leads-back, agrees}
 use Rattle.last_write.proofs.Front.{answered-alike}
 
 -- ---- where the walk from the trailer stops
@@ -70,7 +70,8 @@ module _ (q : Question) (c : List ℕ) (a : isAddress (q .address) ≡ true) (i 
       let at = at-last q c in
       let g = agrees q c (count c) (trailerBegins c) (stopped q c .passed) (s .walking) (stopped q c .first) in
       let here : writeFound q c ≡ last = ap (writtenBefore q c) (at .1) ∙ g .written in
-      is-answer q c (record { address = a; item = i; trailer = s .right }) (whole here (λ v. let e = g .all v in (at .1 ∙ e .0, at .0 ∙ e .1))) here (rw (at .0) (g .read))
+      let all : isValue last ≡ false → (stop q c ≡ 0) × (passedOver q c ≡ count c) = λ v. let e = g .all v in (at .1 ∙ e .0, at .0 ∙ e .1) in
+      is-answer q c (record { address = a; item = i; trailer = s .right }) (whole here all) here (rw (at .0) (g .read))
     where
       whole : writeFound q c ≡ last → (isValue last ≡ false → (stop q c ≡ 0) × (passedOver q c ≡ count c)) → undamaged q c ≡ true
       whole here all = by (isValue last) refl
@@ -91,15 +92,18 @@ module _ (q : Question) (c : List ℕ) (a : isAddress (q .address) ≡ true) (i 
 -- ---- any capture
 
 module _ (q : Question) (c : List ℕ) where
-  -- where a value is told, it is one that was found
+  -- without a number what was found is told
+  found-told : askNumber q c ≡ none → lastWritten q c ≡ writeFound q c
+  unfolding lastWritten
+  found-told = is-done (askNumber q c) (λ number. Nothing) (writeFound q c)
+
+  -- and where a value is told, there is none
   told : isValue (lastWritten q c) ≡ true → (askNumber q c ≡ none) × (lastWritten q c ≡ writeFound q c)
   unfolding lastWritten
   told v = by (eqb (askNumber q c) none) refl
     where
       by : (b : Bool) → eqb (askNumber q c) none ≡ b → (askNumber q c ≡ none) × (lastWritten q c ≡ writeFound q c)
-      by true e =
-          let met = eqb-true (askNumber q c) none e in
-          (met, is-done (askNumber q c) (λ number. Nothing) (writeFound q c) met)
+      by true e = let met = eqb-true (askNumber q c) none e in (met, found-told met)
       by false e =
           let nothing = is-refused (askNumber q c) (λ number. Nothing) (writeFound q c) (eqb-false (askNumber q c) none e) in
           contrary (sym v ∙ ap isValue nothing)
@@ -141,6 +145,16 @@ last-write-claimed q c =
           (record { address = a .address; item = a .item; trailer = right }) (ap (writtenBefore q c) (at .1)) value in
           let here = is-answer q c a {n = n + 1} (rw value) refl (rw (value, at .0, add-one n)) in
           (sym (there .given) ∙ here .given, sym (there .written) ∙ here .written, sym (there .read) ∙ here .read);
+      neverIsWhole = λ e nothing.
+          let a = askable q c e in
+          let at = at-last q c in
+          let held = test-held (undamaged q c) badCapture (omega arith) (sym (number-by q c a) ∙ e) in
+          let none-found = sym (found-told q c e) ∙ nothing in
+          let all = both (eqb (stop q c) 0) (eqb (passedOver q c) (count c)) (rw none-found at held) in
+          let reached = leads-back c (stopped q c .passed) (trailerBegins c)
+          (λ k h. going-on q c (placeAfter c (trailerBegins c) k) (stopped q c .first .before k h) .0)
+          (sym (at .1) ∙ eqb-true _ _ (all .0)) in
+          fault-reached c ∙ rw (a .trailer, ← (sym (at .0) ∙ eqb-true _ _ (all .1)), reached);
       readOnlyNever = λ r. not-told q c (read-only-before q c r (stop q c));
       stopsInTime = λ bound h.
           first-is bound _ (stopped q c .passed) (omega (arith, in-time q c)) (stopped q c .first) ∙ sym (at-last q c .0);

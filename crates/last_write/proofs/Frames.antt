@@ -3,19 +3,19 @@
 use mathlib.Core.Path.{_≡_, refl, sym, ap, _∙_}
 use mathlib.Core.Bool.{Bool, true, false, cond}
 use mathlib.Core.List.{List, [], _∷_, _++_}
-use Prim.Native.Nat.{ℕ, zero, suc, _-_, _≤_}
+use Prim.Native.Nat.{ℕ, zero, suc, _-_, _≤_, _<_}
 use native.Mathlib.Omega.{arith}
-use borrow.Author.Tests.{eqb-true}
+use borrow.Author.Tests.{eqb-true, eq-eqb}
 use lib.ListN.{length, length-append}
 use Rattle.numbers.proofs.Tests.{contrary, both}
 use Rattle.writes.specs.declared.Given.{Given}
 use Rattle.writes.specs.declared.Given.the-variants.{Value, Nothing}
-use Rattle.writes.specs.Writes.{later}
+use Rattle.writes.specs.Writes.{isValue, later}
 use Rattle.capture.specs.Format.{begins, recordEnds, frameBefore, reaches, framesTo}
 use Rattle.capture.proofs.Walk.{ends, Walking, goes-on}
 use Rattle.playback.specs.Written.{wrote, lastWrite}
 use Rattle.playback.proofs.Frames.{last-one-more}
-use Rattle.last_write.specs.LastWrite.{Question, isValue, placeAfter, writtenBefore, stopsAt}
+use Rattle.last_write.specs.LastWrite.{Question, placeAfter, writtenBefore, stopsAt}
 use Rattle.last_write.specs.Claims.{framesRead}
 use Rattle.last_write.proofs.First.{Earliest, one-later}
 use Rattle.last_write.proofs.Walked.{none-at-0, by-frame, no-record}
@@ -87,6 +87,13 @@ stops q c (suc limit) end h = by (stopsAt q c end) refl (stops q c limit (begins
         let before = next (omega arith) in
         let few = before .few in
         record { passed = suc (before .passed); few = omega arith; first = one-later s (before .first) }
+
+-- records that are passed over up to place 0 lead back to it
+pub leads-back : (c : List ℕ) (n end : ℕ) → ((k : ℕ) → k < n → recordEnds c (placeAfter c end k) ≡ true) → placeAfter c end n ≡ 0
+    → reaches c n end ≡ true
+leads-back c zero end passed z = eq-eqb end 0 z
+leads-back c (suc n) end passed z =
+    rw (passed 0 (omega arith)) (leads-back c n (begins c end) (λ k h. passed (suc k) (omega arith)) z)
 
 -- of so many records that lead back to place 0, what the one writes at which the walk stops is what the last of their frames does that
 -- writes at all, and where none does it has passed over them all

@@ -11,9 +11,10 @@ use lib.ListN.{length, getD, take, drop, length-take, length-drop}
 use lib.Seq.{getD-take, getD-drop, drop-drop, ext-getD}
 use Rattle.numbers.specs.Numbers.{none}
 use Rattle.writes.specs.declared.Given.{Given}
+use Rattle.writes.specs.Writes.{isValue}
 use Rattle.capture.specs.Format.{longestFrame, twoAt, size, begins, recordEnds, frameBefore, trailerBegins}
 use Rattle.capture.proofs.Walk.{ends}
-use Rattle.last_write.specs.LastWrite.{Question, isValue, placeAfter, writtenBefore, stopsAt, Answers, Askable}
+use Rattle.last_write.specs.LastWrite.{Question, placeAfter, writtenBefore, stopsAt, Answers, Askable}
 use Rattle.last_write.specs.Claims.{recordsFrom}
 use Rattle.last_write.proofs.First.{Earliest}
 use Rattle.last_write.proofs.Walked.{one-further, by-frame, Walked, walk-starts, walk-on, frame-answers}

@@ -17,12 +17,14 @@ use Rattle.items.specs.ItemList.{listed}
 use Rattle.table.specs.Table.{noSuchItem}
 use Rattle.writes.specs.declared.Given.{Given}
 use Rattle.writes.specs.declared.Given.the-variants.{Nothing}
+use Rattle.writes.specs.Writes.{isValue}
 use Rattle.rtu.specs.Frame.{isAddress}
-use Rattle.capture.specs.Format.{badCapture, longestCapture, longestFrame, sizeBytes, size, begins, recordEnds, frameBefore, trailerBegins, trailerRight, count}
+use Rattle.capture.specs.Format.{badCapture, longestCapture, longestFrame, sizeBytes, size, begins, recordEnds, frameBefore}
+use Rattle.capture.specs.Format.{trailerBegins, trailerRight, count}
 use Rattle.capture.proofs.Walk.{ends, begun}
 use Rattle.playback.specs.Written.{wrote}
-use Rattle.last_write.specs.LastWrite.{Question, isValue, placeAfter, writtenBefore, stopsAt, passedOver, stop, writeFound, distance, undamaged}
-use Rattle.last_write.specs.LastWrite.{askNumber, lastWritten, recordsRead, Answers, refusedBy, Askable}
+use Rattle.last_write.specs.LastWrite.{Question, placeAfter, writtenBefore, stopsAt, passedOver, stop, writeFound, distance}
+use Rattle.last_write.specs.LastWrite.{undamaged, askNumber, lastWritten, recordsRead, Answers, refusedBy, Askable}
 use Rattle.last_write.proofs.First.{Earliest, first-within, first-is}
 
 -- ---- one record
@@ -125,7 +127,7 @@ module _ (q : Question) (c : List ℕ) where
       chosen (λ (n : ℕ). n ≤ longestCapture + 1) (isValue (writeFound q c)) (λ _. omega arith) (λ _. omega arith))
 
 module _ (q : Question) (c : List ℕ) (a : Askable q c) where
-  number-by : askNumber q c ≡ unless (undamaged q c) badCapture
+  pub number-by : askNumber q c ≡ unless (undamaged q c) badCapture
   unfolding askNumber
   number-by = rw (a .address, a .item, a .trailer) (last-met _)
 

@@ -9,12 +9,12 @@ use Rattle.numbers.specs.Numbers.{none}
 use Rattle.items.specs.ItemList.{items, listed, itemAt}
 use Rattle.table.specs.Table.{startValues, entry}
 use Rattle.writes.specs.declared.Given.the-variants.{Nothing}
-use Rattle.writes.specs.Writes.{over}
+use Rattle.writes.specs.Writes.{isValue, over}
 use Rattle.rtu.specs.Frame.{isAddress}
 use Rattle.capture.specs.Format.{begins, trailerBegins, trailerRight, captureFault, frames}
 use Rattle.playback.specs.Playback.{played}
 use Rattle.playback.specs.Written.{lastWrite}
-use Rattle.last_write.specs.LastWrite.{Question, isValue, firstBelow, placeAfter, stopsAt, passedOver, stop}
+use Rattle.last_write.specs.LastWrite.{Question, firstBelow, placeAfter, stopsAt, passedOver, stop}
 use Rattle.last_write.specs.LastWrite.{askNumber, lastWritten, recordsRead}
 
 -- how many frames there are from the end up to the last one that writes to an item, both counted, or all where none does. So the first of
@@ -45,8 +45,10 @@ pub record OfLastWrite (q : Question) (c : List ℕ) : Type 0 where
   pub frontUnseen : isValue (lastWritten q c) ≡ true → (d : List ℕ) (place : ℕ) → trailerRight d ≡ true
       → recordsFrom place d ≡ recordsFrom (begins c (stop q c)) c
       → (askNumber q d ≡ askNumber q c) × (lastWritten q d ≡ lastWritten q c) × (recordsRead q d ≡ recordsRead q c)
+  -- never written is said of well-formed captures alone
+  pub neverIsWhole : askNumber q c ≡ none → lastWritten q c ≡ Nothing → captureFault c ≡ none
   -- a read-only item is never written
   pub readOnlyNever : itemAt (q .item - 1) .writable ≡ false → lastWritten q c ≡ Nothing
-  -- the walk stops before it has passed over more records than the capture has bytes: a search that goes on further finds no other place
+  -- the walk stops within as many records as the capture has bytes: a search that goes on further finds no other place
   pub stopsInTime : (bound : ℕ) → length c ≤ bound
       → firstBelow bound (λ n. stopsAt q c (placeAfter c (trailerBegins c) n)) ≡ passedOver q c

@@ -1,7 +1,7 @@
 -- Who last set an item: a walk back from the trailer of a capture, up to the first frame that is met and writes the item.
 use Prim.Native.Nat.{ℕ, zero, suc, _-_}
 use mathlib.Core.Path.{_≡_}
-use mathlib.Core.Bool.{Bool, true, false, cond, not, _&&_, _||_}
+use mathlib.Core.Bool.{Bool, true, cond, not, _&&_, _||_}
 use mathlib.Core.List.{List, [], _∷_}
 use lib.Dec.{eqb}
 use lib.ListN.{length}
@@ -9,7 +9,8 @@ use Rattle.numbers.specs.Numbers.{unless, firstMet, unlessMet, badSetting}
 use Rattle.items.specs.ItemList.{listed}
 use Rattle.table.specs.Table.{noSuchItem}
 use Rattle.writes.specs.declared.Given.{Given}
-use Rattle.writes.specs.declared.Given.the-variants.{Value, Nothing}
+use Rattle.writes.specs.declared.Given.the-variants.{Nothing}
+use Rattle.writes.specs.Writes.{isValue}
 use Rattle.rtu.specs.Frame.{isAddress}
 use Rattle.capture.specs.Format.{badCapture, begins, recordEnds, frameBefore, trailerBegins, trailerRight, count}
 use Rattle.playback.specs.Written.{wrote}
@@ -19,11 +20,6 @@ use Rattle.last_write.specs.declared.Answer.{Answer}
 pub record Question : Type 0 where
   pub address : ℕ
   pub item : ℕ
-
--- a value is given, and not nothing
-abbrev pub isValue : Given → Bool
-isValue (Value v) = true
-isValue Nothing = false
 
 -- the first number below a bound of which a test holds, and the bound where there is none
 abbrev pub firstBelow : ℕ → (ℕ → Bool) → ℕ
@@ -45,7 +41,7 @@ writtenBefore q c end = cond (recordEnds c end) (wrote (q .address) (frameBefore
 abbrev pub stopsAt : Question → List ℕ → ℕ → Bool
 stopsAt q c end = not (recordEnds c end) || isValue (writtenBefore q c end)
 
--- how many records it passes over until it stops: fewer than the capture has bytes, since each of them has some
+-- how many records it passes over until it stops: no more than the capture has bytes, since each of them has some
 unfoldable pub passedOver : Question → List ℕ → ℕ
 passedOver q c = firstBelow (length c) (λ n. stopsAt q c (placeAfter c (trailerBegins c) n))
 

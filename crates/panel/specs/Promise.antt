@@ -9,8 +9,8 @@ use lib.Seq.{sets}
 use Rattle.rkc.specs.declared.Stepped.{Stepped}
 use Rattle.rkc.specs.Outcome.{Step, Outcome}
 use Rattle.state.specs.State.{stateBytes}
-use Rattle.writes.specs.Writes.{over}
-use Rattle.last_write.specs.LastWrite.{Question, isValue, askNumber, lastWritten, recordsRead}
+use Rattle.writes.specs.Writes.{isValue, over}
+use Rattle.last_write.specs.LastWrite.{Question, askNumber, lastWritten, recordsRead}
 use Rattle.panel.specs.Calls.{result, isCallFault, heldAfter}
 
 -- a bound that no reply of either line is over, so that its length has room in a result

@@ -1,24 +1,61 @@
--- What is claimed in specs/Claims.antt of every playback.
+-- What is claimed in specs/Claims.antt of every frame and of every playback.
 -- Assumes nothing.
-use mathlib.Core.Path.{_≡_, refl, _∙_}
-use mathlib.Core.Bool.{true, false}
+use mathlib.Core.Path.{_≡_, refl, sym, ap, _∙_}
+use mathlib.Core.Bool.{Bool, true, false}
 use mathlib.Core.List.{List, [], _∷_}
 use Prim.Native.Nat.{ℕ}
-use borrow.Author.Tests.{eq-eqb}
+use borrow.Author.Tests.{eqb-true, eqb-false, eq-eqb}
+use lib.Dec.{eqb}
 use lib.IntN.{ℤ}
 use Rattle.numbers.specs.Numbers.{none}
+use Rattle.numbers.proofs.Tests.{both}
 use Rattle.numbers.proofs.Order.{is-refused, is-done}
 use Rattle.items.specs.ItemList.{itemAt}
 use Rattle.table.specs.Table.{goodTable, tableFault, startValues, entry}
 use Rattle.table.proofs.Laws.{good-length}
-use Rattle.rtu.specs.Frame.{Call, callFault}
+use Rattle.crc.specs.Crc.{bodyOf}
+use Rattle.modbus.specs.Outcome.{Outcome}
+use Rattle.settings.specs.Settings.{acceptsWrite, ToWrite}
+use Rattle.settings.proofs.Accepted.{accepted-asks, accepted-number}
+use Rattle.rtu.specs.Frame.{Call, callFault, frameFault, actedOn}
 use Rattle.rtu.proofs.Refusals.{is-fine}
 use Rattle.rtu.proofs.Demands.{frame-read-only}
 use Rattle.capture.specs.Format.{frames}
 use Rattle.playback.specs.Playback.{after, handedOver, atStart, playNumber, played}
-use Rattle.playback.specs.Claims.{OfPlayback}
+use Rattle.playback.specs.Written.{acceptsFrame}
+use Rattle.playback.specs.Claims.{OfFrame, OfPlayback}
+use Rattle.playback.proofs.Frames.{not-accepted, by-message, refused-acted, obeyed, frame-writes}
 use Rattle.playback.proofs.Frames.{start-fine, handed-fine, handed-writes, last-writes}
 use Rattle.playback.proofs.Played.{address-right, start-at}
+
+-- ---- a frame
+
+pub frame-claimed : (call : Call) (frame : List ℕ) → OfFrame call frame
+unfolding after acceptsFrame
+frame-claimed call frame =
+    record {
+      onlyWrites = λ a.
+          accepted-asks (call .address) (bodyOf frame)
+          (both (eqb (frameFault frame) none) (acceptsWrite (call .address) (bodyOf frame)) a .1);
+      byNumber = λ fine w. by-number fine w (eqb (frameFault frame) none) refl;
+      entryWritten = λ fine. frame-writes call fine frame;
+    }
+  where
+    no-number : Outcome → Bool
+    no-number o = eqb (o .number) none
+
+    by-number : callFault call ≡ none → ToWrite (bodyOf frame) → (b : Bool) → eqb (frameFault frame) none ≡ b
+        → acceptsFrame (call .address) frame ≡ no-number (actedOn call frame)
+    by-number fine w false r =
+        let wrong = eqb-false (frameFault frame) none r in
+        not-accepted (call .address) frame wrong ∙ sym r ∙ sym (ap no-number (refused-acted call fine frame wrong))
+    by-number fine w true r =
+        let right = eqb-true (frameFault frame) none r in
+        by-message (call .address) frame right
+        ∙ accepted-number (call .table) (call .address) (bodyOf frame) w
+        ∙ sym (ap no-number (obeyed call fine frame right))
+
+-- ---- playback
 
 -- frames leave the entries of read-only items
 handed-read-only : (fs : List (List ℕ)) (call : Call) (i : ℕ) → itemAt i .writable ≡ false

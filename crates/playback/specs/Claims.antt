@@ -1,16 +1,31 @@
--- What is claimed of playback beside its promise.
-use Prim.Native.Nat.{ℕ, _≤_}
+-- What is claimed of a frame, and of playback beside its promise.
+use Prim.Native.Nat.{ℕ, _≤_, _<_}
 use mathlib.Core.Path.{_≡_}
 use mathlib.Core.Logic.{_≢_}
 use mathlib.Core.Bool.{true, false}
 use mathlib.Core.List.{List}
+use lib.Dec.{eqb}
 use lib.IntN.{ℤ}
 use lib.ListN.{length}
 use Rattle.numbers.specs.Numbers.{none, leastBuffer}
-use Rattle.items.specs.ItemList.{itemAt}
+use Rattle.items.specs.ItemList.{items, itemAt}
 use Rattle.table.specs.Table.{goodTable, startValues, entry}
+use Rattle.crc.specs.Crc.{bodyOf}
+use Rattle.writes.specs.Writes.{over}
+use Rattle.settings.specs.Settings.{ToWrite}
+use Rattle.rtu.specs.Frame.{Call, callFault, actedOn}
 use Rattle.capture.specs.Format.{frames}
 use Rattle.playback.specs.Playback.{handedOver, playNumber, played}
+use Rattle.playback.specs.Written.{acceptsFrame, wrote}
+
+-- of a frame that is handed over: what it is to be accepted, and to write
+pub record OfFrame (call : Call) (frame : List ℕ) : Type 0 where
+  -- only a message of 06H or 10H is accepted as a write, and such a one exactly when it is given no number
+  pub onlyWrites : acceptsFrame (call .address) frame ≡ true → ToWrite (bodyOf frame)
+  pub byNumber : callFault call ≡ none → ToWrite (bodyOf frame) → acceptsFrame (call .address) frame ≡ eqb (actedOn call frame .number) none
+  -- each entry becomes what the frame writes to its item, and stays where it writes nothing
+  pub entryWritten : callFault call ≡ none → (i : ℕ) → i < items
+      → entry (actedOn call frame .table) i ≡ over (entry (call .table) i) (wrote (call .address) frame i)
 
 pub record OfPlayback (t : List ℤ) (address : ℕ) (c : List ℕ) : Type 0 where
   -- a number leaves the table as it came

@@ -2,9 +2,10 @@
 // time. Records can only be walked from the back, so one walk back settles each item by the first write to it that is met.
 ghost use mathlib.Core.Path.{_≡_};
 ghost use lib.ListN.{length};
-ghost use Prim.Native.Nat.{_<_};
+ghost use Prim.Native.Nat.{_≤_, _<_};
 ghost use Rattle.numbers.specs.Promise.{Lent};
 ghost use Rattle.items.specs.ItemList.{items};
+ghost use Rattle.crc.specs.Crc.{bodyOf};
 ghost use Rattle.writes.specs.Writes.{given};
 ghost use Rattle.settings.specs.Settings.{writesOf};
 ghost use Rattle.capture.specs.Format.{frames};
@@ -31,6 +32,15 @@ fn play_fault(table: &[i32], address: u8, capture: &[u8]) -> u8
 
 // ---- what a frame writes
 
+// The message of a frame: all but its CRC.
+fn body_of(frame: &[u8]) -> &[u8]
+    requires { ⌜ 2 ≤ length (now frame) ⌝ }
+    ensures { λ r. ⌜ now r ≡ bodyOf (now (frame .entry)) ⌝ }
+{
+    let n = frame.len() - 2;
+    &frame[..n]
+}
+
 // Whether a frame is a write that the rules accept, for a device with this address.
 fn accepts_frame(address: u8, frame: &[u8]) -> bool
     ensures { λ r. ⌜ r ≡ acceptsFrame address (now (frame .entry)) ⌝ }
@@ -38,8 +48,7 @@ fn accepts_frame(address: u8, frame: &[u8]) -> bool
     if rtu::frame_fault(frame) != NONE {
         return false;
     }
-    let n = frame.len() - 2;
-    settings::accepts_write(address, &frame[..n])
+    settings::accepts_write(address, body_of(frame))
 }
 
 // What a frame writes to an item.
@@ -47,8 +56,7 @@ pub fn wrote(address: u8, frame: &[u8], item: usize) -> Given
     ensures { λ r. ⌜ r ≡ wrote address (now (frame .entry)) item ⌝ }
 {
     if accepts_frame(address, frame) {
-        let n = frame.len() - 2;
-        settings::given_by(&frame[..n], item)
+        settings::given_by(body_of(frame), item)
     } else {
         Given::Nothing
     }
@@ -92,8 +100,7 @@ fn settle(table: &mut [i32], settled: &mut [bool], address: u8, frame: &[u8])
         (now (table .entry)) (now (settled .entry)) (now (table .exit)) (now (settled .exit)) ⌝ }
 {
     if accepts_frame(address, frame) {
-        let n = frame.len() - 2;
-        settle_each(table, settled, &frame[..n]);
+        settle_each(table, settled, body_of(frame));
     }
 }
 

@@ -1,7 +1,7 @@
 -- What a request to write asks for, as a list of writes: whether it is allowed, and what it leaves of the table.
 use Prim.Native.Nat.{ℕ, suc, _+_, _≤_, _<_}
 use mathlib.Core.Logic.{_⊎_}
-use mathlib.Core.Bool.{Bool, true, cond, _&&_}
+use mathlib.Core.Bool.{Bool, true, false, cond, _&&_}
 use mathlib.Core.List.{List, [], _∷_}
 use lib.Dec.{eqb}
 use lib.IntN.{ℤ}
@@ -68,6 +68,11 @@ unfoldable pub storedUnless : ℕ → List ℤ → List Write → List ℤ
 storedUnless fault t ws = unlessMet fault (λ number. t) (storedAll t ws)
 
 -- ---- what an item is given: a value, or nothing
+
+-- a value is given, and not nothing
+abbrev pub isValue : Given → Bool
+isValue (Value v) = true
+isValue Nothing = false
 
 -- what is given later, and where that is nothing what was given before
 abbrev pub later : Given → Given → Given

@@ -7,7 +7,7 @@ use borrow.Author.Tests.{not-true, not-false, eq-eqb, ne-eqb}
 use Rattle.items.proofs.Lookup.{listed-place}
 use Rattle.capture.specs.Format.{recordEnds}
 use Rattle.capture.proofs.Walk.{ends}
-use Rattle.last_write.specs.LastWrite.{isValue}
+use Rattle.writes.specs.Writes.{isValue}
 use Rattle.last_write.proofs.Walked.{none-at-0, Walked, walk-starts, walk-on, frame-answers, meets-damage, all-read}
 use borrow.Author.Needs.{needs}
 use Rattle.last_write.proofs.walk.Statement.{statement}
@@ -44,7 +44,9 @@ returns c =
     (rw (ne-eqb (l .loop .end) 0 (λ z. omega arith))))
 
 -- past the first test a record ends in front of the place
-ended : (c : tie.Else1 Inv-loop μ-loop) → recordEnds (c .before .before .before .before .before .before .args .capture .now) (c .before .before .before .loop .end) ≡ true
+ended : (c : tie.Else1 Inv-loop μ-loop) →
+    let l = c .before .before .before in
+    recordEnds (l .before .before .before .args .capture .now) (l .loop .end) ≡ true
 ended c = sym (c .before .record-ends .ensures) ∙ not-false _ (c .if1 .left)
 
 add-records : tie.Need-add-records Inv-loop μ-loop
@@ -104,7 +106,8 @@ returns-3 : tie.Need-returns-3 Inv-loop μ-loop
 returns-3 c =
     let l = c .before .before .before in
     let s = l .before .before .before in
-    all-read _ (s .args .capture .now) (s .pre) (l .loop .inv) (at-0 (c .before .before)) (rw (eq-eqb (l .loop .end) 0 (omega arith)) (eq-eqb _ _ (c .if2 .taken ∙ c .before .count .ensures)))
+    all-read _ (s .args .capture .now) (s .pre) (l .loop .inv) (at-0 (c .before .before))
+    (rw (eq-eqb (l .loop .end) 0 (omega arith)) (eq-eqb _ _ (c .if2 .taken ∙ c .before .count .ensures)))
 
 returns-4 : tie.Need-returns-4 Inv-loop μ-loop
 returns-4 c =

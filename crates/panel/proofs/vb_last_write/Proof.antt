@@ -8,9 +8,9 @@ use native.Mathlib.Omega.{arith}
 use lib.IntN.{pos}
 use Rattle.sign.proofs.Laws.{same}
 use Rattle.writes.specs.declared.Given.{Given}
-use Rattle.writes.specs.Writes.{over}
+use Rattle.writes.specs.Writes.{isValue, over}
 use Rattle.last_write.specs.declared.Answer.{Answer}
-use Rattle.last_write.specs.LastWrite.{Question, isValue, Answers}
+use Rattle.last_write.specs.LastWrite.{Question, Answers}
 use Rattle.last_write.proofs.Walked.{read-small}
 use Rattle.panel.specs.Calls.{result}
 use Rattle.panel.specs.Promise.{Told}

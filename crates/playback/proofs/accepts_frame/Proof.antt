@@ -2,7 +2,6 @@
 -- Assumes nothing.
 use mathlib.Core.Path.{_≡_, sym, _∙_}
 use native.Mathlib.Omega.{arith}
-use lib.Seq.{length-take-le}
 use Rattle.numbers.specs.Numbers.{none}
 use Rattle.rtu.specs.Frame.{frameFault}
 use Rattle.rtu.proofs.Refusals.{frame-has-body}
@@ -21,17 +20,16 @@ returns c = sym (not-accepted _ _ (λ z. c .if1 .taken (c .before .frame-fault .
 right : (c : tie.Else1) → frameFault (c .before .before .before .args .frame .now) ≡ none
 right c = sym (c .before .frame-fault .ensures) ∙ c .if1 .left
 
-sub-n : tie.Need-sub-n
-sub-n c = let body = frame-has-body _ (right c) in omega arith
-
-slice-aggregate-accepts-write : tie.Need-slice-aggregate-accepts-write
-slice-aggregate-accepts-write c = sym (length-take-le _ _ (omega arith))
+body-of-requires : tie.Need-body-of-requires
+body-of-requires c κs = let body = frame-has-body _ (right c) in omega arith
 
 accepts-write-requires : tie.Need-accepts-write-requires
 accepts-write-requires c κs = search needs
 
 returns-2 : tie.Need-returns-2
-returns-2 c = c .accepts-write .ensures ∙ sym (by-message _ _ (right (c .before .before)))
+returns-2 c =
+    let b = c .before in
+    rw (b .body-of .ensures) at (c .accepts-write .ensures) ∙ sym (by-message _ _ (right (b .before)))
 
 pub accepts-frame-spec : {M : Type 1} → statement M
 accepts-frame-spec =
@@ -39,7 +37,6 @@ accepts-frame-spec =
     (tie.spec
     frame-fault-requires
     returns
-    sub-n
-    slice-aggregate-accepts-write
+    body-of-requires
     accepts-write-requires
     returns-2)

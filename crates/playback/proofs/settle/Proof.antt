@@ -1,9 +1,9 @@
 -- `playback::settle` meets its contract: a frame that is no accepted write gives nothing; of one that is, the message does.
 -- Assumes nothing.
-use mathlib.Core.Path.{sym, _∙_}
+use mathlib.Core.Path.{_≡_, sym, _∙_}
+use mathlib.Core.Bool.{true}
 use native.Mathlib.Omega.{arith}
-use lib.Seq.{length-take-le}
-use Rattle.playback.specs.Written.{wrote}
+use Rattle.playback.specs.Written.{acceptsFrame, wrote}
 use Rattle.playback.proofs.Frames.{accepted-body, other-writes, accepted-writes}
 use Rattle.playback.proofs.Walked.{stays, by-gives}
 use borrow.Author.Needs.{needs}
@@ -13,13 +13,11 @@ use Rattle.playback.proofs.settle.Tie as tie
 accepts-frame-requires : tie.Need-accepts-frame-requires
 accepts-frame-requires c κs = search needs
 
-sub-n : tie.Need-sub-n
-sub-n c =
-    let body = accepted-body _ _ (sym (c .before .accepts-frame .ensures) ∙ c .if1 .taken) in
-    omega arith
+accepted : (c : tie.Then1) → let a = c .before .before .before .before .args in acceptsFrame (a .address) (a .frame .now) ≡ true
+accepted c = sym (c .before .accepts-frame .ensures) ∙ c .if1 .taken
 
-slice-aggregate-settle-each : tie.Need-slice-aggregate-settle-each
-slice-aggregate-settle-each c = sym (length-take-le _ _ (omega arith))
+body-of-requires : tie.Need-body-of-requires
+body-of-requires c κs = let body = accepted-body _ _ (accepted (c .before .before)) in omega arith
 
 settle-each-requires : tie.Need-settle-each-requires
 settle-each-requires c κs = search needs
@@ -33,10 +31,9 @@ same-length-2 c = search needs
 returns : tie.Need-returns
 returns c =
     let w = c .before .before .before in
-    let t = w .before .before .before .before in
-    let a = t .before .before .before .before .args in
-    by-gives (w .settle-each .ensures)
-    (λ i h. sym (accepted-writes (a .address) (a .frame .now) i (sym (t .before .accepts-frame .ensures) ∙ t .if1 .taken)))
+    let b = w .before in
+    let t = b .before .before .before in
+    by-gives (rw (b .body-of .ensures) at (w .settle-each .ensures)) (λ i h. sym (accepted-writes _ _ i (accepted t)))
 
 returns-2 : tie.Need-returns-2
 returns-2 c =
@@ -50,8 +47,7 @@ settle-spec =
     tie.close
     (tie.spec
     accepts-frame-requires
-    sub-n
-    slice-aggregate-settle-each
+    body-of-requires
     settle-each-requires
     same-length
     same-length-2
