@@ -348,8 +348,8 @@ uint32_t vb_show(const uint8_t *capture, uint64_t cn, uint32_t frame, uint32_t *
  *
  * Damage in front of the record that answers is not noticed, and the trailer's number of records is
  * looked at only where none answers. So 0 with a write found is no proof that the capture is well
- * formed; vb_playback and vb_show, which read all of it, give one. In a capture that is, the value
- * found is the one at which vb_playback leaves the item.
+ * formed; 0 with none found is one, and so is 0 of vb_playback or vb_show, which read all of it. In
+ * a capture that is, the value found is the one at which vb_playback leaves the item.
  *
  * The time grows with the records that are read, and not with the capture's length; the stack grows
  * with neither. */

@@ -105,10 +105,11 @@ static const struct request *request_of(const char *name) {
 }
 
 static void repeat(const struct repeated *part) {
-    for (size_t i = 0; i < part->frames; i++) {
-        const struct request *request = request_of(part->request);
+    if (part->frames == 0)
+        return; /* a capture of one part: the second names no request */
+    const struct request *request = request_of(part->request);
+    for (size_t i = 0; i < part->frames; i++)
         capture_add(&capture, request->bytes, request->n);
-    }
 }
 
 static void make_capture(const char *name) {

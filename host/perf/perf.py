@@ -157,7 +157,7 @@ def growth(library):
     """Tells what the cost of a capture grows with, and ends with an error where it must not."""
     for name, twice, once in (
         ("Playback of twice as many frames", "full", "half"),
-        ("A last write before twice as many records", "first-of-21841", "first-of-10921"),
+        ("A last write with twice as many records to pass over", "first-of-21841", "first-of-10921"),
     ):
         times = library[twice] / library[once]
         print(f"{name} takes {times:.2f} times the instructions.")

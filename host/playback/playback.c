@@ -33,7 +33,8 @@ static const char help[] =
     "the frames one at a time: a line for each item, with its identifier and the number stored,\n"
     "the point left out. A frame is shown as its place in the file, from 0, its length and bytes.\n"
     "The last write that the panel took is shown as its value and the number of records from it\n"
-    "to the end of the file, itself included; what stands in front of it is not looked at.\n"
+    "to the end of the file, itself included; what stands in front of it is not looked at. Where\n"
+    "there is none, that is said, with the number of all records.\n"
     "Status 1: the file could not be read, or was refused, with the number and its meaning.\n"
     "Status 2: a bad command line.\n";
 

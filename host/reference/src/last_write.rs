@@ -1,7 +1,7 @@
 //! The last value that a host wrote to one item, as document 02 asks a capture for it.
 //!
-//! The walk goes back from the trailer and stops at the first frame met that writes the item. What
-//! stands in front of that frame is not looked at, so damage there is not noticed.
+//! Records are read from the end of the capture, and the first frame that writes the item answers.
+//! What stands in front of that frame is not looked at, so damage there is not noticed.
 
 use crate::capture::{in_parts, last_frame, number};
 use crate::modbus;
@@ -11,12 +11,12 @@ use crate::modbus;
 pub struct Told {
     /// The value of the last write, none where the item was never written.
     pub value: Option<i32>,
-    /// The number of records read: from the end up to the one that answers, both counted, or all.
+    /// How many records were looked at, the answering one included; all of them where none answers.
     pub records: usize,
 }
 
-/// What a capture tells of an item of the instrument at this address. None for a capture under 6 or
-/// over 65,536 bytes, or for damage met on the way.
+/// What a capture tells of an item of the instrument at this address. None where its length is not
+/// allowed, and where something is wrong with the part of it that had to be looked at.
 pub fn told(capture: &[u8], address: u8, item: usize) -> Option<Told> {
     let (records, trailer) = in_parts(capture)?;
     if number(&trailer[2..]) != place_of_last(records)? {
@@ -47,7 +47,8 @@ pub fn told(capture: &[u8], address: u8, item: usize) -> Option<Told> {
     })
 }
 
-/// Where the last record begins, 0 if there are none. None where no record can end here.
+/// The place that a trailer must point to: that of the last record, or 0 behind nothing. None where no
+/// record can end here.
 fn place_of_last(records: &[u8]) -> Option<usize> {
     if records.is_empty() {
         return Some(0);

@@ -351,7 +351,7 @@ fn modbus_documents() {
 /// A capture of three frames, and one of a single frame whose trailer counts two.
 const THREE: &str = "01 06 00 10 01 02 08 5E 00 08 01 06 00 10 FF 6A 49 D0 00 08 \
                      01 06 00 F4 00 32 49 ED 00 08 00 03 00 00 00 14";
-const COUNTED_TWICE: &str = "01 06 00 10 01 02 08 5E 00 08 00 02 00 00 00 00";
+const MISCOUNTED: &str = "01 06 00 10 01 02 08 5E 00 08 00 02 00 00 00 00";
 
 /// Document 02's captures played back and shown.
 fn captures() {
@@ -359,7 +359,7 @@ fn captures() {
     playback(1, THREE);
     show(2, THREE);
     show(4, THREE);
-    playback(1, COUNTED_TWICE);
+    playback(1, MISCOUNTED);
 }
 
 /// Document 02's last write to an item: in the capture of three frames, in the same with a first
@@ -367,7 +367,7 @@ fn captures() {
 fn last_writes() {
     let damaged = "01 06 00 10 01 02 08 5E 00 00 01 06 00 10 FF 6A 49 D0 00 08 \
                    01 06 00 F4 00 32 49 ED 00 08 00 03 00 00 00 14";
-    for capture in [THREE, damaged, COUNTED_TWICE] {
+    for capture in [THREE, damaged, MISCOUNTED] {
         last(1, 9, capture);
         last(1, 11, capture);
     }

@@ -183,7 +183,7 @@ fn damage_in_front_of_the_answer_is_not_noticed() {
             assert_eq!(asked(&whole, PB), found(2, 1));
         }
     }
-    // Nor what is missing there, or too much.
+    // Nor what is missing there.
     for lost in 0..=front.len() {
         let records = [&front[lost..], &answer].concat();
         let whole = with_trailer(&records, 3, (front.len() - lost) as u32);

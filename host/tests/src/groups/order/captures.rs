@@ -2,7 +2,7 @@ use super::{every_set, Fault, ITEM, TABLE_LENGTH};
 use crate::call::Call;
 use crate::compare::Compare;
 use crate::failure::Checked;
-use crate::groups::{captures, last_write as asked};
+use crate::groups::{captures, last_write};
 use crate::random::Random;
 
 /// 4: an address that there is not for Modbus.
@@ -63,11 +63,11 @@ pub fn show(compare: &mut Compare, random: &mut Random) -> Checked<()> {
 pub fn last_write(compare: &mut Compare, random: &mut Random) -> Checked<()> {
     for _ in 0..40 {
         let number = random.below(10);
-        let capture = asked::parts(&asked::some(random, number)).capture();
+        let capture = last_write::parts(&last_write::some(random, number)).capture();
         for item in 1..=12 {
             let call = Call {
                 address: random.pick(&[1, 1, 2, 99]),
-                ..asked::asking(random, capture.clone(), item)
+                ..last_write::asking(random, capture.clone(), item)
             };
             every_set(compare, random, &[ADDRESS, ITEM, ON_THE_WAY], &call, 0)?;
         }
