@@ -149,7 +149,7 @@ last-write-claimed q c =
           let a = askable q c e in
           let at = at-last q c in
           let held = test-held (undamaged q c) badCapture (omega arith) (sym (number-by q c a) ∙ e) in
-          let none-found = sym (found-told q c e) ∙ nothing in
+          let none-found : writeFound q c ≡ Nothing = sym (found-told q c e) ∙ nothing in
           let all = both (eqb (stop q c) 0) (eqb (passedOver q c) (count c)) (rw none-found at held) in
           let reached = leads-back c (stopped q c .passed) (trailerBegins c)
           (λ k h. going-on q c (placeAfter c (trailerBegins c) k) (stopped q c .first .before k h) .0)
