@@ -1,5 +1,6 @@
 pub mod Xor
 pub mod Shifts
+pub mod Agree
 pub mod Bytes
 pub mod Flip
 pub mod AsSent

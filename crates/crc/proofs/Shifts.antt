@@ -3,9 +3,10 @@
 -- Assumes nothing.
 use mathlib.Core.Path.{_≡_, refl, sym, ap, ap₂, _∙_}
 use Prim.Native.Nat.{ℕ, zero, suc, _+_, _*_, _/_, _%_, _^_, _<_}
-use native.Mathlib.Nat.{zero-add, suc-add, mul-one}
+use native.Mathlib.Nat.{zero-add, suc-add, mul-one, mod-lt}
 use native.Mathlib.Omega.{arith}
-use lib.Bits.{bitXor, xor-zero-r, xor-lt, shifted-half, shifted-even}
+use lib.Bits.{bitXor, xor-zero-r, xor-lt, xor-shifted, shifted-half, shifted-even}
+use lib.Pow.{split, pow-pos}
 use Rattle.crc.specs.Crc.{poly, shift, shifts}
 use Rattle.crc.proofs.Xor.{xor-odd, xor-half, xor-pairs, xor-zero}
 
@@ -53,6 +54,13 @@ pub shifts-low : (n a : ℕ) → shifts n (a * 2 ^ n) ≡ a
 unfolding shifts
 shifts-low zero a = mul-one a
 shifts-low (suc n) a = ap (shifts n) (shift-even (a * 2 ^ suc n) (shifted-even a n) ∙ shifted-half a n) ∙ shifts-low n a
+
+-- n shifts at once: all bits but the n lowest move n places down, exclusive or with what n shifts make of the n lowest alone
+pub shifts-at-once : (n a : ℕ) → shifts n a ≡ bitXor (a / 2 ^ n) (shifts n (a % 2 ^ n))
+shifts-at-once n a =
+    let low = a % 2 ^ n in
+    ap (shifts n) (sym (split a n) ∙ sym (xor-shifted (a / 2 ^ n) n low (mod-lt a (pow-pos n))))
+    ∙ shifts-xor n (a / 2 ^ n * 2 ^ n) low ∙ ap (λ (x : ℕ). bitXor x (shifts n low)) (shifts-low n (a / 2 ^ n))
 
 shift-small : (a : ℕ) → a < 2 ^ 16 → shift a < 2 ^ 16
 unfolding shift

@@ -1,41 +1,58 @@
 // The CRC-16 of Modbus RTU: start FFFFH, A001H, low bit first, low byte sent first.
 ghost use mathlib.Core.Path.{_≡_};
-ghost use Prim.Native.Nat.{_+_, _*_};
+ghost use Prim.Native.Nat.{ℕ, _+_, _*_, _<_};
 ghost use lib.Bits.{bitXor};
-ghost use Rattle.crc.specs.Crc.{shift, shifts, crc16Of, isRight, Seals};
+ghost use lib.ListN.{getD};
+ghost use Rattle.crc.specs.Crc.{shifts, crc16Of, isRight, Seals};
 
 const START: u16 = 0xFFFF;
 
-const POLY: u16 = 0xA001;
+// What four shifts make of each half byte.
+const HALVES: [u16; 16] = [
+    0x0000,
+    0xCC01,
+    0xD801,
+    0x1400,
+    0xF001,
+    0x3C00,
+    0x2800,
+    0xE401,
+    0xA001,
+    0x6C00,
+    0x7800,
+    0xB401,
+    0x5000,
+    0x9C01,
+    0x8801,
+    0x4400,
+];
 
-// The register after one shift. The bit that falls out, 0 or 1, times the polynomial spares a test.
-fn shift(crc: u16) -> u16
-    ensures { λ r. ⌜ r ≡ shift crc ⌝ }
+// The register after four shifts at once.
+fn shift_four(halves: &[u16; 16], crc: u16) -> u16
+    requires { ⌜ ((k : ℕ) → k < 16 → getD (now halves) k 0 ≡ shifts 4 k) ⌝ }
+    ensures { λ r. ⌜ r ≡ shifts 4 crc ⌝ }
 {
-    (crc >> 1) ^ (crc % 2 * POLY)
+    (crc >> 4) ^ halves[(crc % 16) as usize]
 }
 
-// The register after one byte more: a shift for each of its bits.
-fn take_in(crc: u16, byte: u8) -> u16
+// The register after one byte more: four shifts for each half of it, the low one first.
+fn take_in(halves: &[u16; 16], crc: u16, byte: u8) -> u16
+    requires { ⌜ ((k : ℕ) → k < 16 → getD (now halves) k 0 ≡ shifts 4 k) ⌝ }
     ensures { λ r. ⌜ r ≡ shifts 8 (bitXor crc byte) ⌝ }
 {
-    let mut moved = crc ^ (byte as u16);
-    let mut left: u8 = 8;
-    while 0 < left {
-        moved = shift(moved);
-        left -= 1;
-    }
-    moved
+    shift_four(halves, shift_four(halves, crc ^ (byte as u16)))
 }
 
-// The CRC of some bytes.
+// The CRC of some bytes. The constants are laid out once, before the first byte: named in `shift_four` they would be laid out
+// anew for each half.
 pub fn crc16(bytes: &[u8]) -> u16
     ensures { λ r. ⌜ r ≡ crc16Of (now (bytes .entry)) ⌝ }
 {
+    let halves = HALVES;
     let mut crc = START;
     let mut i = 0;
     while i < bytes.len() {
-        crc = take_in(crc, bytes[i]);
+        crc = take_in(&halves, crc, bytes[i]);
         i += 1;
     }
     crc

@@ -1,6 +1,6 @@
 -- `crc::crc16` meets its contract. The loop's invariant: the bytes that are left, taken into the register as it is, give the result.
 -- Assumes nothing.
-use mathlib.Core.Path.{_≡_, sym, ap, ap₂, _∙_}
+use mathlib.Core.Path.{_≡_, refl, sym, ap, ap₂, _∙_}
 use mathlib.Core.List.{List}
 use Prim.Native.Nat.{ℕ, _+_, _-_, _≤_, _<_}
 use native.Mathlib.Numerals.{add-one}
@@ -9,15 +9,16 @@ use borrow.Author.Needs.{needs}
 use lib.Bits.{bitXor}
 use lib.ListN.{length, getD, drop, drop-of-length-le}
 use lib.Seq.{drop-cons}
-use Rattle.crc.specs.Crc.{start, shifts, crcFrom, crc16Of}
+use Rattle.crc.specs.Crc.{start, shift, shifts, crcFrom, crc16Of}
+use Rattle.crc.proofs.Agree.{agree-at}
 use Rattle.crc.proofs.crc16.Statement.{statement}
 use Rattle.crc.proofs.crc16.Tie as tie
 
 abbrev Inv-loop : tie.InvT-loop
-Inv-loop bytes crc₀ i₀ crc i = (i ≤ length bytes) × (crcFrom crc (drop i bytes) ≡ crc16Of bytes)
+Inv-loop bytes halves crc₀ i₀ crc i = (i ≤ length bytes) × (crcFrom crc (drop i bytes) ≡ crc16Of bytes)
 
 abbrev μ-loop : tie.MeasureT-loop
-μ-loop bytes crc₀ i₀ crc i = length bytes - i
+μ-loop bytes halves crc₀ i₀ crc i = length bytes - i
 
 all-left : (bytes : List ℕ) (crc : ℕ) → crc ≡ start → crcFrom crc (drop 0 bytes) ≡ crc16Of bytes
 unfolding crc16Of
@@ -39,8 +40,10 @@ loop-holds c = (search needs, all-left _ _ (omega arith))
 shared-slice-read-take-in : tie.Need-shared-slice-read-take-in Inv-loop μ-loop
 shared-slice-read-take-in c = search needs
 
+-- the sixteen constants, where the definition of a shift is computed
 take-in-requires : tie.Need-take-in-requires Inv-loop μ-loop
-take-in-requires c κs = search needs
+unfolding shifts shift
+take-in-requires c κs = agree-at _ (shifts 4) 16 refl
 
 add-i : tie.Need-add-i Inv-loop μ-loop
 add-i c = search needs
@@ -50,7 +53,8 @@ loop-less c = search needs
 
 loop-again : tie.Need-loop-again Inv-loop μ-loop
 loop-again c =
-    (search needs, one-less _ _ _ _ _ (c .before .before .loop-test .taken) (c .before .before .before .loop .inv .1) (c .take-in .ensures))
+    let l = c .before .before .before in
+    (search needs, one-less _ _ _ _ _ (l .loop-test .taken) (l .before .loop .inv .1) (c .take-in .ensures))
 
 returns : tie.Need-returns Inv-loop μ-loop
 returns c = none-left _ _ _ _ (c .loop-test .left) (c .before .loop .inv .1)
