@@ -1,5 +1,5 @@
--- What shifts do, to numbers of any size: they respect the exclusive or, and they take zeros off the low end. A register of 16 bits
--- stays one, and only 0 shifts to 0.
+-- What shifts do, to numbers of any size: they respect the exclusive or, they take zeros off the low end, and several can be done at
+-- once. A register of 16 bits stays one, and only 0 shifts to 0.
 -- Assumes nothing.
 use mathlib.Core.Path.{_≡_, refl, sym, ap, ap₂, _∙_}
 use Prim.Native.Nat.{ℕ, zero, suc, _+_, _*_, _/_, _%_, _^_, _<_}

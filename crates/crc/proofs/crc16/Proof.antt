@@ -40,7 +40,7 @@ loop-holds c = (search needs, all-left _ _ (omega arith))
 shared-slice-read-take-in : tie.Need-shared-slice-read-take-in Inv-loop μ-loop
 shared-slice-read-take-in c = search needs
 
--- the sixteen constants, where the definition of a shift is computed
+-- the sixteen constants are what four shifts make of each half byte: one test, computed by the definition of a shift
 take-in-requires : tie.Need-take-in-requires Inv-loop μ-loop
 unfolding shifts shift
 take-in-requires c κs = agree-at _ (shifts 4) 16 refl
