@@ -12,6 +12,7 @@ abbrev pub agree : (ℕ → ℕ) → (ℕ → ℕ) → ℕ → Bool
 agree f g zero = true
 agree f g (suc n) = eqb (f 0) (g 0) && agree (λ (k : ℕ). f (suc k)) (λ (k : ℕ). g (suc k)) n
 
+-- where the test holds, so does the equation at each of them
 pub agree-at : (f g : ℕ → ℕ) (n : ℕ) → agree f g n ≡ true → (k : ℕ) → k < n → f k ≡ g k
 agree-at f g zero e k h = absurd (not-suc-le-zero h)
 agree-at f g (suc n) e zero h = eqb-true (f 0) (g 0) (both (eqb (f 0) (g 0)) _ e .0)

@@ -7,8 +7,8 @@ ghost use Rattle.crc.specs.Crc.{shifts, crc16Of, isRight, Seals};
 
 const START: u16 = 0xFFFF;
 
-// What four shifts make of each half byte.
-const HALVES: [u16; 16] = [
+// What four shifts make of each half byte, 0 to 15.
+const SHIFTED: [u16; 16] = [
     0x0000,
     0xCC01,
     0xD801,
@@ -28,19 +28,19 @@ const HALVES: [u16; 16] = [
 ];
 
 // The register after four shifts at once.
-fn shift_four(halves: &[u16; 16], crc: u16) -> u16
-    requires { ⌜ ((k : ℕ) → k < 16 → getD (now halves) k 0 ≡ shifts 4 k) ⌝ }
+fn shift_four(shifted: &[u16; 16], crc: u16) -> u16
+    requires { ⌜ ((k : ℕ) → k < 16 → getD (now shifted) k 0 ≡ shifts 4 k) ⌝ }
     ensures { λ r. ⌜ r ≡ shifts 4 crc ⌝ }
 {
-    (crc >> 4) ^ halves[(crc % 16) as usize]
+    (crc >> 4) ^ shifted[(crc % 16) as usize]
 }
 
 // The register after one byte more: four shifts for each half of it, the low one first.
-fn take_in(halves: &[u16; 16], crc: u16, byte: u8) -> u16
-    requires { ⌜ ((k : ℕ) → k < 16 → getD (now halves) k 0 ≡ shifts 4 k) ⌝ }
+fn take_in(shifted: &[u16; 16], crc: u16, byte: u8) -> u16
+    requires { ⌜ ((k : ℕ) → k < 16 → getD (now shifted) k 0 ≡ shifts 4 k) ⌝ }
     ensures { λ r. ⌜ r ≡ shifts 8 (bitXor crc byte) ⌝ }
 {
-    shift_four(halves, shift_four(halves, crc ^ (byte as u16)))
+    shift_four(shifted, shift_four(shifted, crc ^ (byte as u16)))
 }
 
 // The CRC of some bytes. The constants are laid out once, before the first byte: named in `shift_four` they would be laid out
@@ -48,11 +48,11 @@ fn take_in(halves: &[u16; 16], crc: u16, byte: u8) -> u16
 pub fn crc16(bytes: &[u8]) -> u16
     ensures { λ r. ⌜ r ≡ crc16Of (now (bytes .entry)) ⌝ }
 {
-    let halves = HALVES;
+    let shifted = SHIFTED;
     let mut crc = START;
     let mut i = 0;
     while i < bytes.len() {
-        crc = take_in(&halves, crc, bytes[i]);
+        crc = take_in(&shifted, crc, bytes[i]);
         i += 1;
     }
     crc

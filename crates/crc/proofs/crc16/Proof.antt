@@ -15,10 +15,10 @@ use Rattle.crc.proofs.crc16.Statement.{statement}
 use Rattle.crc.proofs.crc16.Tie as tie
 
 abbrev Inv-loop : tie.InvT-loop
-Inv-loop bytes halves crc₀ i₀ crc i = (i ≤ length bytes) × (crcFrom crc (drop i bytes) ≡ crc16Of bytes)
+Inv-loop bytes shifted crc₀ i₀ crc i = (i ≤ length bytes) × (crcFrom crc (drop i bytes) ≡ crc16Of bytes)
 
 abbrev μ-loop : tie.MeasureT-loop
-μ-loop bytes halves crc₀ i₀ crc i = length bytes - i
+μ-loop bytes shifted crc₀ i₀ crc i = length bytes - i
 
 all-left : (bytes : List ℕ) (crc : ℕ) → crc ≡ start → crcFrom crc (drop 0 bytes) ≡ crc16Of bytes
 unfolding crc16Of
