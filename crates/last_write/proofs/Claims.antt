@@ -19,7 +19,7 @@ use Rattle.table.specs.Table.{startValues, entry}
 use Rattle.writes.specs.declared.Given.{Given}
 use Rattle.writes.specs.declared.Given.the-variants.{Nothing}
 use Rattle.writes.specs.Writes.{isValue, over}
-use Rattle.rtu.specs.Frame.{isAddress}
+use Rattle.call.specs.Call.{isAddress}
 use Rattle.capture.specs.Format.{badCapture, begins, recordEnds, frameBefore, trailerBegins, count, captureFault, frames}
 use Rattle.capture.proofs.Walk.{sound, fault-reached}
 use Rattle.playback.specs.Playback.{played}

@@ -18,7 +18,7 @@ use Rattle.table.specs.Table.{noSuchItem}
 use Rattle.writes.specs.declared.Given.{Given}
 use Rattle.writes.specs.declared.Given.the-variants.{Nothing}
 use Rattle.writes.specs.Writes.{isValue}
-use Rattle.rtu.specs.Frame.{isAddress}
+use Rattle.call.specs.Call.{isAddress}
 use Rattle.capture.specs.Format.{badCapture, longestCapture, longestFrame, sizeBytes, size, begins, recordEnds, frameBefore}
 use Rattle.capture.specs.Format.{trailerBegins, trailerRight, count}
 use Rattle.capture.proofs.Walk.{ends, begun}

@@ -10,7 +10,7 @@ use Rattle.items.specs.ItemList.{items, listed, itemAt}
 use Rattle.table.specs.Table.{startValues, entry}
 use Rattle.writes.specs.declared.Given.the-variants.{Nothing}
 use Rattle.writes.specs.Writes.{isValue, over}
-use Rattle.rtu.specs.Frame.{isAddress}
+use Rattle.call.specs.Call.{isAddress}
 use Rattle.capture.specs.Format.{begins, trailerBegins, trailerRight, captureFault, frames}
 use Rattle.playback.specs.Playback.{played}
 use Rattle.playback.specs.Written.{lastWrite}

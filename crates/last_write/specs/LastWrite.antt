@@ -11,7 +11,7 @@ use Rattle.table.specs.Table.{noSuchItem}
 use Rattle.writes.specs.declared.Given.{Given}
 use Rattle.writes.specs.declared.Given.the-variants.{Nothing}
 use Rattle.writes.specs.Writes.{isValue}
-use Rattle.rtu.specs.Frame.{isAddress}
+use Rattle.call.specs.Call.{isAddress}
 use Rattle.capture.specs.Format.{badCapture, begins, recordEnds, frameBefore, trailerBegins, trailerRight, count}
 use Rattle.playback.specs.Written.{wrote}
 use Rattle.last_write.specs.declared.Answer.{Answer}

@@ -64,7 +64,7 @@ fn walk(capture: &[u8], address: u8, item: u32) -> Answer
 pub fn ask(capture: &[u8], address: u8, item: u32) -> Answer
     ensures { λ r. ⌜ Answers (record { address = address; item = item }) (now (capture .entry)) r ⌝ }
 {
-    if !rtu::is_address(address) {
+    if !call::is_address(address) {
         return refused(BAD_SETTING);
     }
     if !items::listed(item) {

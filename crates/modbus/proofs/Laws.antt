@@ -85,11 +85,11 @@ every-table Q t address body q w =
 -- ---- the laws
 
 module _ (t : List ℤ) (address : ℕ) (body : List ℕ) where
-  -- a reply has at most 253 bytes: with the two that a line adds it has room in every buffer that is accepted
-  pub reply-short : length (acted t address body .reply) ≤ 253
+  -- a reply has at most 125 bytes: with what either line makes of it, it has room in every buffer that is accepted
+  pub reply-short : length (acted t address body .reply) ≤ 125
   unfolding exceptionReply readReply
   reply-short =
-      every (λ (o : Outcome). length (o .reply) ≤ 253) t address body (omega arith) (λ number h. omega arith)
+      every (λ (o : Outcome). length (o .reply) ≤ 125) t address body (omega arith) (λ number h. omega arith)
       (λ f q. let r = read-accepted body q in omega (arith, length-registers t (firstWord body) (secondWord body)))
       (λ f q. let w = write-long body q in omega arith)
       (λ f q. let l = loopback-accepted body q in omega arith)

@@ -7,9 +7,10 @@ use Prim.Native.Nat.{ℕ, _/_, _%_, _≤_, _<_}
 use native.Mathlib.Omega.{arith}
 use lib.IntN.{ℤ}
 use Rattle.modbus.specs.declared.Answered.{Answered}
-use Rattle.rtu.specs.Frame.{Call}
-use Rattle.rtu.specs.Promise.{Untouched, Acts}
-use Rattle.rtu.specs.Demands.{OfFrame}
+use Rattle.call.specs.Call.{Call}
+use Rattle.call.specs.Promise.{Untouched}
+use Rattle.call.specs.Demands.{OfCall}
+use Rattle.rtu.specs.Promise.{Acts}
 use Rattle.rtu.proofs.Replies.{frame-reply-short}
 use Rattle.rtu.proofs.Demands.{demand-1-frame}
 use Rattle.panel.specs.Calls.{result, answerIn}
@@ -42,7 +43,7 @@ module _ {call : Call} {after : List ℕ} {left : List ℤ} (r : ℕ) where
   acts-in {frame} n e = subst (λ (x : Answered). Acts call frame x after left) (answer-held n e)
 
   -- every call that keeps its promise meets demand 1
-  pub demand-1-rtu : (frame : List ℕ) → Acts call frame (answerIn r) after left → OfFrame call (answerIn r) after left
+  pub demand-1-rtu : (frame : List ℕ) → Acts call frame (answerIn r) after left → OfCall call (answerIn r) after left
   demand-1-rtu frame = demand-1-frame call frame
 
   -- where nothing is replied, as after the caller's fault, the result is the number itself

@@ -17,14 +17,16 @@ use Rattle.crc.specs.Crc.{bodyOf}
 use Rattle.modbus.specs.Outcome.{Outcome}
 use Rattle.settings.specs.Settings.{acceptsWrite, ToWrite}
 use Rattle.settings.proofs.Accepted.{accepted-asks, accepted-number}
-use Rattle.rtu.specs.Frame.{Call, callFault, frameFault, actedOn}
-use Rattle.rtu.proofs.Refusals.{is-fine}
+use Rattle.call.specs.Call.{Call, callFault}
+use Rattle.rtu.specs.Frame.{frameFault, actedOn}
+use Rattle.rtu.proofs.Replies.{acted-refused, acted-answered}
+use Rattle.call.proofs.Faults.{is-fine}
 use Rattle.rtu.proofs.Demands.{frame-read-only}
 use Rattle.capture.specs.Format.{frames}
 use Rattle.playback.specs.Playback.{after, handedOver, atStart, playNumber, played}
 use Rattle.playback.specs.Written.{acceptsFrame}
 use Rattle.playback.specs.Claims.{OfFrame, OfPlayback}
-use Rattle.playback.proofs.Frames.{not-accepted, by-message, refused-acted, obeyed, frame-writes}
+use Rattle.playback.proofs.Frames.{not-accepted, by-message, frame-writes}
 use Rattle.playback.proofs.Frames.{start-fine, handed-fine, handed-writes, last-writes}
 use Rattle.playback.proofs.Played.{address-right, start-at}
 
@@ -48,12 +50,12 @@ frame-claimed call frame =
         → acceptsFrame (call .address) frame ≡ no-number (actedOn call frame)
     by-number fine w false r =
         let wrong = eqb-false (frameFault frame) none r in
-        not-accepted (call .address) frame wrong ∙ sym r ∙ sym (ap no-number (refused-acted call fine frame wrong))
+        not-accepted (call .address) frame wrong ∙ sym r ∙ sym (ap no-number (acted-refused call frame fine wrong))
     by-number fine w true r =
         let right = eqb-true (frameFault frame) none r in
         by-message (call .address) frame right
         ∙ accepted-number (call .table) (call .address) (bodyOf frame) w
-        ∙ sym (ap no-number (obeyed call fine frame right))
+        ∙ sym (ap no-number (acted-answered call frame fine right))
 
 -- ---- playback
 

@@ -25,8 +25,10 @@ use Rattle.modbus.specs.Outcome.{Outcome, silent}
 use Rattle.modbus.specs.Rules.{ours, acted}
 use Rattle.settings.specs.Settings.{writesOf, rightForm, acceptsWrite}
 use Rattle.settings.proofs.Accepted.{accepted-stores, others-leave}
-use Rattle.rtu.specs.Frame.{Call, isAddress, callFault, frameFault, withCrc, actedOn}
-use Rattle.rtu.proofs.Refusals.{is-fine, no-fault, frame-has-body, refused-frame}
+use Rattle.call.specs.Call.{Call, isAddress, callFault}
+use Rattle.call.proofs.Faults.{is-fine, no-fault}
+use Rattle.rtu.specs.Frame.{frameFault, actedOn}
+use Rattle.rtu.proofs.Refusals.{frame-has-body}
 use Rattle.rtu.proofs.Replies.{acted-refused, acted-answered}
 use Rattle.rtu.proofs.Demands.{frame-good}
 use Rattle.playback.specs.Playback.{after, handedOver}
@@ -93,15 +95,6 @@ module _ (call : Call) (fine : callFault call ≡ none) (frame : List ℕ) where
         address = is-fine call fine .address;
       })
 
-  -- a frame with a fault is refused, and any other is acted on as its message says
-  pub refused-acted : (frameFault frame ≡ none → ⊥) → actedOn call frame ≡ silent (call .table) (frameFault frame)
-  refused-acted wrong =
-      let met = refused-frame call frame fine in
-      acted-refused call frame (λ e. wrong (sym met ∙ e)) ∙ ap (silent (call .table)) met
-
-  pub obeyed : frameFault frame ≡ none → actedOn call frame ≡ withCrc (acted (call .table) (call .address) (bodyOf frame))
-  obeyed right = acted-answered call frame (refused-frame call frame fine ∙ right)
-
   -- each entry becomes what the frame writes to its item, and stays where it writes nothing
   pub frame-writes : (i : ℕ) → i < items
       → entry (after call frame .table) i ≡ over (entry (call .table) i) (wrote (call .address) frame i)
@@ -115,16 +108,16 @@ module _ (call : Call) (fine : callFault call ≡ none) (frame : List ℕ) where
           → entry-of (actedOn call frame) ≡ over (entry (call .table) i) (wrote (call .address) frame i)
       by false accepted r a =
           let wrong = eqb-false (frameFault frame) none r in
-          ap entry-of (refused-acted wrong)
+          ap entry-of (acted-refused call frame fine wrong)
           ∙ ap (over (entry (call .table) i)) (sym (other-writes (call .address) frame i (not-accepted (call .address) frame wrong)))
       by true false r a =
           let right = eqb-true (frameFault frame) none r in
-          ap entry-of (obeyed right)
+          ap entry-of (acted-answered call frame fine right)
           ∙ ap (λ (t : List ℤ). entry t i) (others-leave (call .table) (call .address) (bodyOf frame) a)
           ∙ ap (over (entry (call .table) i)) (sym (other-writes (call .address) frame i (by-message (call .address) frame right ∙ a)))
       by true true r a =
           let right = eqb-true (frameFault frame) none r in
-          ap entry-of (obeyed right)
+          ap entry-of (acted-answered call frame fine right)
           ∙ ap (λ (t : List ℤ). entry t i) (accepted-stores (call .table) (call .address) (bodyOf frame) a)
           ∙ all-given (call .table) (writesOf (bodyOf frame)) i (omega (arith, good-length (call .table) good))
           ∙ ap (over (entry (call .table) i)) (sym (accepted-writes (call .address) frame i (by-message (call .address) frame right ∙ a)))

@@ -15,7 +15,7 @@ use Rattle.numbers.proofs.Order.{last-met, passed, is-refused, is-done}
 use Rattle.items.specs.ItemList.{items}
 use Rattle.table.specs.Table.{wrongLength, startValues, startNumber, startTable}
 use Rattle.table.proofs.Laws.{good-start, good-length}
-use Rattle.rtu.specs.Frame.{isAddress, callFault}
+use Rattle.call.specs.Call.{isAddress, callFault}
 use Rattle.capture.specs.Format.{captureFault, frames}
 use Rattle.playback.specs.Playback.{handedOver, atStart, playNumber, played}
 use Rattle.playback.specs.Settling.{LastWrites}

@@ -13,7 +13,8 @@ use Rattle.table.specs.Table.{goodTable, startValues, entry}
 use Rattle.crc.specs.Crc.{bodyOf}
 use Rattle.writes.specs.Writes.{over}
 use Rattle.settings.specs.Settings.{ToWrite}
-use Rattle.rtu.specs.Frame.{Call, callFault, actedOn}
+use Rattle.call.specs.Call.{Call, callFault}
+use Rattle.rtu.specs.Frame.{actedOn}
 use Rattle.capture.specs.Format.{frames}
 use Rattle.playback.specs.Playback.{handedOver, playNumber, played}
 use Rattle.playback.specs.Written.{acceptsFrame, wrote}

@@ -8,7 +8,8 @@ use lib.Seq.{sets}
 use Rattle.numbers.specs.Numbers.{unless, firstMet, unlessMet, leastBuffer, badSetting}
 use Rattle.items.specs.ItemList.{items}
 use Rattle.table.specs.Table.{wrongLength, startValues}
-use Rattle.rtu.specs.Frame.{Call, isAddress, actedOn}
+use Rattle.call.specs.Call.{Call, isAddress}
+use Rattle.rtu.specs.Frame.{actedOn}
 use Rattle.capture.specs.Format.{captureFault, frames}
 
 -- what the next frame is handed to: the table and the buffer as a frame left them

@@ -24,7 +24,7 @@ fn play_fault(table: &[i32], address: u8, capture: &[u8]) -> u8
     if table.len() != items::ITEMS {
         return WRONG_LENGTH;
     }
-    if !rtu::is_address(address) {
+    if !call::is_address(address) {
         return BAD_SETTING;
     }
     capture::fault(capture)

@@ -6,9 +6,6 @@ use Rattle.numbers.proofs.Single.{single, _&_}
 use Rattle.modbus.proofs.Single.{answer-single}
 use Rattle.rtu.proofs as rtu
 
-pub is-address : OneOutcome rtu.is_address.ended rtu.is_address.Reads.Asked rtu.is_address.Reads.Post
-is-address = record { asksNothing = λ κs a. tt; single = λ κs a o u p q. single p q & refl }
-
 pub frame-fault : OneOutcome rtu.frame_fault.ended rtu.frame_fault.Reads.Asked rtu.frame_fault.Reads.Post
 frame-fault = record { asksNothing = λ κs a. tt; single = λ κs a o u p q. single p q & refl }
 

@@ -7,14 +7,9 @@ use Rattle.numbers.specs.Numbers.{none}
 use Rattle.crc.specs.Damage.{Spoils, flip}
 use Rattle.modbus.specs.declared.Answered.{Answered}
 use Rattle.modbus.specs.Promise.{Gives}
-use Rattle.rtu.specs.Frame.{wrongCrc, Call, callFault, actedOn}
-
--- this number and no reply is given back, and buffer and table are as they came
-pub record Untouched (number : ℕ) (call : Call) (r : Answered) (after : List ℕ) (left : List ℤ) : Type 0 where
-  pub given : r .number ≡ number
-  pub silent : r .len ≡ 0
-  pub buffer : after ≡ call .buffer
-  pub table : left ≡ call .table
+use Rattle.call.specs.Call.{Call, callFault}
+use Rattle.call.specs.Promise.{Untouched}
+use Rattle.rtu.specs.Frame.{wrongCrc, actedOn}
 
 -- A call that is handed a frame gives the outcome of that frame. So where the caller made no fault and the frame is a right
 -- one of 4 to 256 bytes that the line has spoiled, by flips within 16 consecutive bits as sent or by an odd number of flips,

@@ -15,9 +15,10 @@ use Rattle.rkc.specs.Outcome.{performed, stepFault, byteFault, received}
 use Rattle.crc.specs.Crc.{shift, shifts, crcFrom, crc16Of, framed, isRight}
 use Rattle.registers.specs.Faults.{loopbackFault}
 use Rattle.modbus.specs.Rules.{loopingBack, obeying, acted}
+use Rattle.call.specs.Call as call
 use Rattle.rtu.specs.Frame as rtu
 use Rattle.starred.specs.Starred.{Example, table, start, lent, after, blockBytes, placeOf, ofBlock, ofWritten, ofFrame, made}
 
 pub starred : map (λ (e : Example). made (e .deed)) table ≡ map (λ (e : Example). e .result) table
-unfolding ones found inRange tableFault startValues stored keeps heard sent bccFrom readNumber readValue fits text writeNumber written decided blockItem blockValue blockNumber used inLimits withMore withEnd performed stepFault byteFault received shift shifts crcFrom crc16Of framed isRight loopbackFault loopingBack obeying acted rtu.callFault rtu.frameFault rtu.refusal rtu.actedOn start lent after blockBytes placeOf ofBlock ofWritten ofFrame made
+unfolding ones found inRange tableFault startValues stored keeps heard sent bccFrom readNumber readValue fits text writeNumber written decided blockItem blockValue blockNumber used inLimits withMore withEnd performed stepFault byteFault received shift shifts crcFrom crc16Of framed isRight loopbackFault loopingBack obeying acted call.callFault call.refusal call.answeredAs rtu.frameFault rtu.actedOn start lent after blockBytes placeOf ofBlock ofWritten ofFrame made
 starred = refl

@@ -4,7 +4,7 @@ use mathlib.Core.Path.{_≡_, sym, _∙_}
 use mathlib.Core.Bool.{true}
 use borrow.Author.Tests.{not-true, not-false}
 use Rattle.items.specs.ItemList.{listed}
-use Rattle.rtu.specs.Frame.{isAddress}
+use Rattle.call.specs.Call.{isAddress}
 use Rattle.last_write.proofs.Walked.{no-address, no-item, no-trailer}
 use borrow.Author.Needs.{needs}
 use Rattle.last_write.proofs.ask.Statement.{statement}

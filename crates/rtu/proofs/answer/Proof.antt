@@ -5,13 +5,15 @@ use Prim.Native.Nat.{_≤_}
 use native.Mathlib.Omega.{arith}
 use lib.ListN.{length}
 use lib.Seq.{length-take-le}
-use Rattle.crc.specs.Crc.{bodyOf}
+use Rattle.crc.specs.Crc.{framed, bodyOf}
 use Rattle.modbus.specs.Rules.{acted}
 use Rattle.modbus.specs.Promise.{Gives}
 use Rattle.modbus.proofs.Acting.{gives-by, within-room}
 use Rattle.modbus.proofs.Laws.{reply-short}
-use Rattle.rtu.proofs.Refusals.{not-refused, is-fine, frame-has-body}
-use Rattle.rtu.proofs.Replies.{gives-silent, gives-sealed}
+use Rattle.call.proofs.Faults.{not-refused, is-fine}
+use Rattle.call.proofs.Answered.{gives-silent}
+use Rattle.rtu.proofs.Refusals.{frame-has-body}
+use Rattle.rtu.proofs.Replies.{gives-sealed}
 use borrow.Author.Needs.{needs}
 use Rattle.rtu.proofs.answer.Statement.{statement}
 use Rattle.rtu.proofs.answer.Tie as tie
@@ -48,7 +50,7 @@ ruled c =
     gives-by (within-room _ _ _ _ (room s)) (c .respond .ensures)
 
 returns : tie.Need-returns
-returns c = gives-silent (ruled (c .before .before .before .before .before)) (c .if1 .taken)
+returns c = gives-silent framed (ruled (c .before .before .before .before .before)) (c .if1 .taken)
 
 seal-requires : tie.Need-seal-requires
 seal-requires c κs = search needs

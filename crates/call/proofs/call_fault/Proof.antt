@@ -1,13 +1,13 @@
--- `rtu::call_fault` meets its contract: each way out is one of the caller's faults, or none. Assumes nothing.
+-- `call::call_fault` meets its contract: each way out is one of the caller's faults, or none. Assumes nothing.
 use mathlib.Core.Path.{_≡_, sym, ap, _∙_}
 use mathlib.Core.Bool.{Bool}
 use native.Mathlib.Omega.{arith}
 use Rattle.numbers.specs.Numbers.{unless, badSetting}
-use Rattle.rtu.specs.Frame.{callFault}
-use Rattle.rtu.proofs.Refusals.{call-table, call-room, call-address}
+use Rattle.call.specs.Call.{callFault}
+use Rattle.call.proofs.Faults.{call-table, call-room, call-address}
 use borrow.Author.Needs.{needs}
-use Rattle.rtu.proofs.call_fault.Statement.{statement}
-use Rattle.rtu.proofs.call_fault.Tie as tie
+use Rattle.call.proofs.call_fault.Statement.{statement}
+use Rattle.call.proofs.call_fault.Tie as tie
 
 check-requires : tie.Need-check-requires
 check-requires c κs = search needs
