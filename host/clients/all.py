@@ -3,6 +3,7 @@
 import signal
 import sys
 
+import ascii_checks
 import modbus_checks
 import playback_checks
 import program_checks
@@ -10,7 +11,7 @@ import record_checks
 import rkc_checks
 from checks import Checks
 from mbpoll_client import Mbpoll
-from pymodbus_client import Pymodbus
+from pymodbus_client import Pymodbus, PymodbusAscii
 
 
 def give_up(*_):
@@ -27,6 +28,8 @@ def main():
         program_checks.run(checks, command)
         modbus_checks.run(checks, command, Mbpoll)
         modbus_checks.run(checks, command, Pymodbus)
+        modbus_checks.run(checks, command, PymodbusAscii)
+        ascii_checks.run(checks, command)
         record_checks.run(checks, command, (Mbpoll, Pymodbus))
         playback_checks.run(checks, command)
         rkc_checks.run(checks, command)

@@ -1,9 +1,13 @@
-"""Counting of checks, runs of a program, and the simulator as a process that never outlives
-them."""
+"""Counting of checks, runs of a program, the simulator as a process that never outlives them, and
+what it shows of an exchange."""
 
 import contextlib
 import select
 import subprocess
+import tempfile
+import time
+
+from rkc_host import Host, open_port
 
 START_SECONDS = 5
 STEP_SECONDS = 5
@@ -102,3 +106,17 @@ class Simulator:
         """The status with which it ends when asked to."""
         self.process.terminate()
         return self.wait()
+
+
+def exchange(command, words, parts, count, gap_seconds=0):
+    """A simulator of its own is sent these parts, with a gap between them. As many bytes of its
+    answers as asked for, and the lines that it shows."""
+    with tempfile.TemporaryFile("w+") as shown:
+        with Simulator(command, *words, "-v", shown=shown) as simulator:
+            with contextlib.closing(Host(open_port(simulator.port))) as host:
+                for place, part in enumerate(parts):
+                    time.sleep(gap_seconds if place > 0 else 0)
+                    host.send_bytes(part)
+                heard = host.hear_bytes(count)
+        shown.seek(0)
+        return heard, shown.read().splitlines()

@@ -21,6 +21,7 @@ INPUT_REGISTER = "3"
 
 class Mbpoll:
     NAME = "mbpoll"
+    MODE = "rtu"
     ADDRESS = 99
     BAUD = 9600
 
@@ -29,7 +30,7 @@ class Mbpoll:
 
     def ask(self, words, values=(), address=ADDRESS):
         """One run. What it prints on standard output, or what the panel did instead."""
-        line = ["-m", "rtu", "-b", str(self.BAUD), "-P", "none", "-o", "1", "-a", str(address)]
+        line = ["-m", self.MODE, "-b", str(self.BAUD), "-P", "none", "-o", "1", "-a", str(address)]
         done = subprocess.run(
             ["mbpoll", *line, "-0", "-1", *words, self.port, *values],
             stdin=subprocess.DEVNULL,

@@ -1,8 +1,9 @@
 """What every Modbus client must see.
 
-A client has `NAME`, the `ADDRESS` and `BAUD` that it uses, `read` (a list of registers), `write`
-and `write_together` (`WRITTEN`) and `close`. Each answers `exception(code)` where the panel refuses
-and `SILENCE` where it does not answer. `own_checks` tries what only that client can ask for."""
+A client has `NAME`, the `MODE`, `ADDRESS` and `BAUD` that it uses, `read` (a list of registers),
+`write` and `write_together` (`WRITTEN`) and `close`. Each answers `exception(code)` where the panel
+refuses and `SILENCE` where it does not answer. `own_checks` tries what only that client can ask
+for."""
 
 import contextlib
 import itertools
@@ -110,7 +111,7 @@ def refusals(checks, client):
 
 
 def run(checks, command, client_of):
-    words = ("rtu", "--address", str(client_of.ADDRESS), "--baud", str(client_of.BAUD))
+    words = (client_of.MODE, "--address", str(client_of.ADDRESS), "--baud", str(client_of.BAUD))
     with checks.of(client_of.NAME), Simulator(command, *words) as simulator:
         with contextlib.closing(client_of(simulator.port)) as client:
             got = client.read(0, panel.MAP_LENGTH)

@@ -7,7 +7,7 @@ import pty
 import tempfile
 import termios
 
-from checks import Simulator, run_once
+from checks import Simulator, exchange, run_once
 from rkc_host import Host, open_port
 
 BAD_COMMAND_LINES = (
@@ -21,6 +21,10 @@ BAD_COMMAND_LINES = (
     "rtu --baud 9601",
     "rtu --silence 0",
     "rkc --record capture",
+    "ascii --address 0",
+    "ascii --structure 0",
+    "ascii --silence 20",
+    "ascii --record capture",
     "rtu --unheard-of",
 )
 
@@ -29,6 +33,12 @@ QUESTION = bytes.fromhex("04 30 31 02 50 42 2D 38 03 04 04 30 31 50 42 05")
 ANSWER = bytes.fromhex("06 02 50 42 2D 30 38 2E 30 30 03 1A")
 
 LOOPBACK = bytes.fromhex("01 08 00 00 1F 34 E9 EC")
+
+# The loopback test in each mode, and how that is shown.
+SHOWN = {
+    "rtu": (LOOPBACK, "01 08 00 00 1F 34 E9 EC"),
+    "ascii": (b":010800001F34A4\r\n", ":010800001F34A4<CR><LF>"),
+}
 
 
 def command_line(checks, command):
@@ -73,15 +83,10 @@ def device(checks, command):
 
 
 def showing(checks, command):
-    with tempfile.TemporaryFile("w+") as shown:
-        with Simulator(command, "rtu", "-v", shown=shown) as simulator:
-            with contextlib.closing(Host(open_port(simulator.port))) as host:
-                host.send_bytes(LOOPBACK)
-                host.hear_bytes(len(LOOPBACK))
-        shown.seek(0)
-        frame = LOOPBACK.hex(" ").upper()
-        expected = [f"request {frame}", "number  0, no fault", f"reply   {frame}"]
-        checks.same("what -v shows", shown.read().splitlines(), expected)
+    for mode, (sent, text) in SHOWN.items():
+        _, got = exchange(command, [mode], [sent], len(sent))
+        expected = [f"request {text}", "number  0, no fault", f"reply   {text}"]
+        checks.same(f"what {mode} -v shows", got, expected)
 
 
 def run(checks, command):

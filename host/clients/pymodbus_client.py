@@ -1,10 +1,12 @@
-"""pymodbus: one connection, open from the first question to the last."""
+"""pymodbus, in both modes: one connection, open from the first question to the last."""
 
 import struct
 from functools import partial
 
 from pymodbus.client import ModbusSerialClient
 from pymodbus.exceptions import ModbusIOException
+from pymodbus.framer.ascii_framer import ModbusAsciiFramer
+from pymodbus.framer.rtu_framer import ModbusRtuFramer
 from pymodbus.register_write_message import WriteMultipleRegistersRequest
 
 import panel
@@ -51,11 +53,15 @@ def miscounted(start):
 
 class Pymodbus:
     NAME = "pymodbus"
+    MODE = "rtu"
+    FRAMER = ModbusRtuFramer
     ADDRESS = 7
     BAUD = 19200
 
     def __init__(self, port):
-        self.client = ModbusSerialClient(port, baudrate=self.BAUD, timeout=REPLY_SECONDS)
+        self.client = ModbusSerialClient(
+            port, self.FRAMER, baudrate=self.BAUD, timeout=REPLY_SECONDS
+        )
 
     def read(self, start, quantity, address=ADDRESS):
         response = self.client.read_holding_registers(start, quantity, slave=address)
@@ -76,7 +82,7 @@ class Pymodbus:
         return outcome(self.client.execute(request))
 
     def quantities(self, checks):
-        """Function 10H for one register, for none, and for one more than a frame can hold."""
+        """Function 10H for one register, for none, and for one more than a message can hold."""
         start = panel.item("TM").register
         got = (self.write_together(start, [123]), self.read(start, 1))
         checks.same("TM alone takes 123", got, (WRITTEN, [123]))
@@ -110,3 +116,9 @@ class Pymodbus:
 
     def close(self):
         self.client.close()
+
+
+class PymodbusAscii(Pymodbus):
+    NAME = "pymodbus ascii"
+    MODE = "ascii"
+    FRAMER = ModbusAsciiFramer

@@ -1,8 +1,10 @@
-/* A panel on two lines, as firmware would run it: what it keeps, and what it does at the start, for
- * each byte of the RKC line, while that line is silent, and for each frame of the Modbus line.
+/* A panel on three lines, as firmware would run it: what it keeps, and what it does at the start,
+ * for each byte of the RKC line, while that line is silent, for each frame of the Modbus RTU line,
+ * and for each byte of the Modbus ASCII line.
  *
  * main() plays the outside world: a host sets the offset and asks for it, then falls silent; it
- * tries again to set it, and a byte is damaged on the way; another host tries the Modbus line. In
+ * tries again to set it, and a byte is damaged on the way; another host tries the RTU line; a third
+ * one asks for the offset on the ASCII line, twice, since a byte of the first line is damaged. In
  * firmware its calls come from the serial drivers and the clock. */
 #include "vennebruis.h"
 
@@ -16,6 +18,10 @@ enum { ADDRESS = 1, STRUCTURE = VB_TOP_BIT_ZERO };
 static int32_t table[VB_TABLE_ENTRIES];
 static uint8_t link_state[VB_STATE_BYTES];
 static uint8_t reply[VB_REPLY_BYTES];
+
+/* What has come of an ASCII line, from its colon on; nothing before that. */
+static uint8_t ascii_line[VB_LINE_BYTES];
+static uint32_t ascii_length;
 
 /* Hands bytes to a line's serial driver. Here they are shown instead. */
 static void transmit(const char *line, const uint8_t *bytes, uint32_t n) {
@@ -58,14 +64,41 @@ static void rkc_silent(uint32_t now) {
     act_on("rkc", vb_idle(link_state, sizeof link_state, reply, sizeof reply, STRUCTURE, now));
 }
 
-/* A silence on the Modbus line has ended a frame. One with a damaged byte is dropped before. */
+/* A silence on the RTU line has ended a frame. One with a damaged byte is dropped before. */
 static void rtu_received(const uint8_t *frame, uint64_t n) {
     act_on("rtu", vb_rtu(table, VB_TABLE_ENTRIES, reply, sizeof reply, ADDRESS, frame, n));
 }
 
+/* A byte has come on the ASCII line, its parity bit taken off. */
+static void ascii_received(uint8_t byte) {
+    if (byte == ':')
+        ascii_length = 0;
+    else if (ascii_length == 0)
+        return;
+    if (ascii_length == VB_LINE_BYTES) {
+        ascii_length = 0;
+        return;
+    }
+    ascii_line[ascii_length++] = byte;
+    if (byte == '\n') {
+        act_on("ascii", vb_ascii(table, VB_TABLE_ENTRIES, reply, sizeof reply, ADDRESS, ascii_line,
+                                 ascii_length));
+        ascii_length = 0;
+    }
+}
+
+/* A byte has come on the ASCII line that the UART reports damaged: all up to the next colon is
+ * passed over. */
+static void ascii_damaged(void) { ascii_length = 0; }
+
 static void all_received(const uint8_t *bytes, uint32_t n, uint32_t now) {
     for (uint32_t i = 0; i < n; i++)
         rkc_received(bytes[i], now);
+}
+
+static void text_received(const char *text) {
+    for (; *text != '\0'; text++)
+        ascii_received((uint8_t)*text);
 }
 
 int main(void) {
@@ -87,5 +120,10 @@ int main(void) {
     all_received(heard + 7, 3, 5000);
     rtu_received(loopback, sizeof loopback);
     rtu_received(read_offset, sizeof read_offset);
+    /* The same read as a line, with a damaged byte in it, and once more. */
+    text_received(":0103001");
+    ascii_damaged();
+    text_received("0001EB\r\n");
+    text_received(":010300100001EB\r\n");
     return 0;
 }

@@ -38,14 +38,15 @@
  *   known beforehand. So a reply is sent to its last byte, or copied, before its buffer is lent
  *   again, to vb_idle as well. Two lines that may answer at the same time have a buffer each. On a
  *   half-duplex line, what is heard while a reply goes out is not handed over: an echo of an item
- *   would end its own poll (43, or 41 where the echo has lost its STX and so begins another poll).
+ *   would end its own poll (43, or 41 where the echo has lost its STX and so begins another poll),
+ *   and an echo of what 06H or 08H is answered by would be answered again, without end.
  *
  * Calls at the same time
  *   Calls that are lent different memory may run at the same time. Calls that share a table, a
  *   state or a buffer must not interrupt each other, and nothing else may write there during a
- *   call: a vb_put in a measuring interrupt must not come in while vb_byte, vb_rtu or another
- *   vb_put runs on that table. Either the interrupt is turned off around these calls, or it only
- *   notes the value, and the main loop puts it between two calls.
+ *   call: a vb_put in a measuring interrupt must not come in while vb_byte, vb_rtu, vb_ascii or
+ *   another vb_put runs on that table. Either the interrupt is turned off around these calls, or it
+ *   only notes the value, and the main loop puts it between two calls.
  *
  * Stack
  *   No call takes more than 400 bytes of stack on x86-64, its arguments and return address
@@ -69,7 +70,9 @@ extern "C" {
 #define VB_REPLY_BYTES 256
 #define VB_TEXT_BYTES 6
 
-/* The most that a capture has, in bytes. */
+/* The most that a Modbus ASCII line has from its colon to its LF, and the most that a capture has,
+ * in bytes. */
+#define VB_LINE_BYTES 513
 #define VB_CAPTURE_BYTES 65536
 
 /* The two parts of a result. The second is the length of the reply; for vb_last_write it tells
@@ -105,12 +108,15 @@ enum vb_number {
     VB_READ_ONLY = 17,           /* the item can't be written by the host */
     VB_OUT_OF_RANGE = 18,        /* the value lies outside the item's range */
 
-    /* A Modbus frame is passed over: no reply, nothing changed. */
-    VB_FRAME_LENGTH = 21,  /* under 4 or over 256 bytes */
+    /* A Modbus frame or line is passed over: no reply, nothing changed. */
+    VB_FRAME_LENGTH = 21,  /* a frame under 4 or over 256 bytes */
     VB_WRONG_CRC = 22,     /* the CRC is another */
-    VB_OTHER_ADDRESS = 23, /* the frame is for somebody else */
+    VB_OTHER_ADDRESS = 23, /* the frame or line is for somebody else */
+    VB_WRONG_LINE = 24,    /* no colon, no CR LF, another character, or a length not allowed */
+    VB_WRONG_LRC = 25,     /* the LRC is another */
 
-    /* A Modbus request is refused: the reply is an exception of 5 bytes, the table stays. */
+    /* A Modbus request is refused: the reply is an exception, a frame of 5 bytes or a line of 11,
+     * the table stays. */
     VB_UNKNOWN_FUNCTION = 31, /* exception 1: a function other than 03H, 06H, 08H, 10H */
     VB_WRONG_REGISTER = 32,   /* exception 2: outside the map, or not writable */
     VB_WRONG_DATA = 33,       /* exception 3: length, quantity, byte count, test code or value */
@@ -275,6 +281,42 @@ uint32_t vb_idle(uint8_t *state, uint64_t sn, uint8_t *reply, uint64_t rn, uint8
  * 23 there is no reply. */
 uint32_t vb_rtu(int32_t *table, uint64_t tn, uint8_t *reply, uint64_t rn, uint8_t address,
                 const uint8_t *frame, uint64_t fn);
+
+/* One whole Modbus ASCII line: a colon, two characters 0 to 9 or A to F for each byte from the
+ * address to the LRC, CR, LF. The line may have any length and any contents; it is read only, and
+ * must not lie in the reply buffer.
+ *
+ * The driver calls when LF comes, and hands in what it has kept; how long that took to come does
+ * not matter. A good line has LF at its end alone, so what comes behind LF belongs to the next. A
+ * colon always starts afresh: all before the last one is dropped here, and may as well be dropped
+ * by the driver. So VB_LINE_BYTES are enough to keep between calls, with how many they are:
+ *
+ *   a colon         forgets what is kept, and is kept as the first byte
+ *   any other byte  is kept behind it. It is passed over where nothing is kept yet; where
+ *                   VB_LINE_BYTES are, the line is too long, and is forgotten
+ *   LF              is kept like any other, then the call is made, and what is kept is forgotten
+ *
+ * Characters have seven bits, and a byte of 80H or more is none of them (24). Where the host sends
+ * 7 data bits with parity, the UART is set to that, so that it checks the parity bit, hands over
+ * the byte without it, and makes it in replies; a UART that can't is set to 8 data bits without
+ * parity, and firmware does the same. Where the UART reports a framing error (a break is one), a
+ * parity error or an overrun, the driver forgets what is kept and so passes over all up to the next
+ * colon: the LRC is a sum, which tells far less than the CRC of a frame. It does not tell two bytes
+ * that have changed places, nor bytes of 00H that are missing.
+ *
+ * table, tn   the item values; VB_TABLE_ENTRIES
+ * reply, rn   where the reply goes, a line from colon to LF; VB_REPLY_BYTES or more
+ * address     of this device, 1 to 99
+ * line, ln    what was received
+ *
+ * Gives 0, 1 to 4, 23 to 25 or 31 to 33; 24 and 25 are tried before 23. 24 is given where there is
+ * no colon or no CR LF at the end, and where what lies between the last colon and that has any
+ * other character, is odd in number, or makes under 3 or over 255 bytes. The message is judged by
+ * the very rules of vb_rtu, and leaves the same table. The lengths there count the two bytes of the
+ * CRC, so without its LRC a message has two fewer here: 6 for 03H, 06H and 08H, and seven more than
+ * its byte count for 10H. With 1 to 4 and 23 to 25 there is no reply. */
+uint32_t vb_ascii(int32_t *table, uint64_t tn, uint8_t *reply, uint64_t rn, uint8_t address,
+                  const uint8_t *line, uint64_t ln);
 
 /* Sets an item from the firmware: a measured value, an error code, a setting made at the panel.
  * Every item may be set, within its range.

@@ -24,9 +24,11 @@ enum heard { HEARD_BYTES, HEARD_SILENCE, HEARD_END };
 /* Opens the line asked for, and says on standard error why where it can't. */
 bool line_open(struct line *line, const struct options *options);
 
-/* Listens for bytes. With none in the time given (below 0: no limit) it is silence, and so it is,
-   perhaps sooner, while a pseudo-terminal has no client. The end is a signal, or a device that
-   went away. */
+/* In place of a time: as long as it takes. */
+enum { NO_LIMIT = -1 };
+
+/* Listens for bytes. With none in the time given it is silence, and so it is, perhaps sooner, while
+   a pseudo-terminal has no client. The end is a signal, or a device that went away. */
 enum heard line_hear(struct line *line, uint8_t *bytes, size_t room, int limit_ms, size_t *count);
 
 /* Sends a reply, as far as there is somebody to take it. */

@@ -10,9 +10,10 @@
 static const char help[] =
     "panel-sim: plays the panel indicator on a line\n"
     "\n"
-    "usage: panel-sim rtu|rkc [DEVICE] [options]\n"
+    "usage: panel-sim rtu|ascii|rkc [DEVICE] [options]\n"
     "\n"
     "  rtu             answers Modbus RTU frames\n"
+    "  ascii           answers Modbus ASCII lines, however slowly they come\n"
     "  rkc             answers RKC polling and selecting\n"
     "  DEVICE          a serial device, used with 8 data bits, no parity, one stop bit;\n"
     "                  without it a new pseudo-terminal\n"
@@ -135,17 +136,19 @@ static enum verdict settle_line(struct options *options, const struct given *giv
 /* The words that are no options: the speech, then perhaps a device. */
 static enum verdict read_words(struct options *options, int count, char **words) {
     if (count == 0) {
-        return refuse("say rtu or rkc");
+        return refuse("say rtu, ascii or rkc");
     }
     if (count > 2) {
         return refuse("'%s' is one word too many", words[2]);
     }
     if (strcmp(words[0], "rtu") == 0) {
         options->speech = SPEECH_RTU;
+    } else if (strcmp(words[0], "ascii") == 0) {
+        options->speech = SPEECH_ASCII;
     } else if (strcmp(words[0], "rkc") == 0) {
         options->speech = SPEECH_RKC;
     } else {
-        return refuse("say rtu or rkc, not '%s'", words[0]);
+        return refuse("say rtu, ascii or rkc, not '%s'", words[0]);
     }
     options->device = count == 2 ? words[1] : NULL;
     return VERDICT_START;

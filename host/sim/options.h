@@ -6,7 +6,7 @@
 #include <stdint.h>
 #include <termios.h>
 
-enum speech { SPEECH_RTU, SPEECH_RKC };
+enum speech { SPEECH_RTU, SPEECH_ASCII, SPEECH_RKC };
 
 struct options {
     enum speech speech;

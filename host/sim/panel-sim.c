@@ -15,11 +15,19 @@ static bool serve(struct line *line, const struct options *options, struct recor
     struct panel panel = {.reply = {0}};
     vb_start_table(panel.table, VB_TABLE_ENTRIES);
     vb_start_link(panel.state, VB_STATE_BYTES);
-    if (options->speech == SPEECH_RTU) {
-        return serve_rtu(&panel, line, options, recording);
+    bool well = true;
+    switch (options->speech) {
+    case SPEECH_RTU:
+        well = serve_rtu(&panel, line, options, recording);
+        break;
+    case SPEECH_ASCII:
+        serve_ascii(&panel, line, options);
+        break;
+    case SPEECH_RKC:
+        serve_rkc(&panel, line, options);
+        break;
     }
-    serve_rkc(&panel, line, options);
-    return true;
+    return well;
 }
 
 /* On a line that is open. The capture comes after it, so that an older one of the same name is not

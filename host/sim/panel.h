@@ -1,4 +1,4 @@
-/* The panel that is played: what the library is lent, and the two ways in which it is spoken to. */
+/* The panel that is played: what the library is lent, and how it is spoken to. */
 #ifndef PANEL_H
 #define PANEL_H
 
@@ -22,7 +22,8 @@ struct panel {
 bool serve_rtu(struct panel *panel, struct line *line, const struct options *options,
                struct recording *recording);
 
-/* Answers until the line ends. */
+/* Each answers until the line ends. */
+void serve_ascii(struct panel *panel, struct line *line, const struct options *options);
 void serve_rkc(struct panel *panel, struct line *line, const struct options *options);
 
 #endif

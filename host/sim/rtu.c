@@ -1,16 +1,16 @@
 /* The Modbus RTU line: a frame is what stands between two silences. */
 #include "panel.h"
 
-#include <stdio.h>
 #include <string.h>
 
+#include "modbus.h"
 #include "show.h"
 #include "vennebruis.h"
 
 /* One byte more than the longest frame, so that a longer one is still seen to be too long. */
 enum { FRAME_ROOM = 257 };
 
-enum { NO_LIMIT = -1 };
+static const struct mode rtu = {.call = vb_rtu, .show = show_frame};
 
 struct frame {
     uint8_t bytes[FRAME_ROOM];
@@ -23,19 +23,6 @@ static void add(struct frame *frame, const uint8_t *bytes, size_t count) {
     size_t taken = count < room ? count : room;
     memcpy(frame->bytes + frame->length, bytes, taken);
     frame->length += taken;
-}
-
-static void answer(struct panel *panel, const struct line *line, const struct options *options,
-                   const struct frame *frame) {
-    uint32_t result = vb_rtu(panel->table, VB_TABLE_ENTRIES, panel->reply, VB_REPLY_BYTES,
-                             options->address, frame->bytes, frame->length);
-    size_t length = VB_LENGTH(result);
-    line_send(line, panel->reply, length);
-    if (options->show) {
-        show_frame(stderr, "request", (struct bytes){frame->bytes, frame->length});
-        show_number(VB_NUMBER(result));
-        show_frame(stderr, "reply", (struct bytes){panel->reply, length});
-    }
 }
 
 bool serve_rtu(struct panel *panel, struct line *line, const struct options *options,
@@ -55,7 +42,8 @@ bool serve_rtu(struct panel *panel, struct line *line, const struct options *opt
                 if (!recording_frame(recording, frame.bytes, frame.length)) {
                     return false;
                 }
-                answer(panel, line, options, &frame);
+                modbus_answer(&rtu, panel, line, options,
+                              (struct bytes){frame.bytes, frame.length});
                 frame.length = 0;
             }
             break;

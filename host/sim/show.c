@@ -25,6 +25,8 @@ static const struct row meanings[] = {
     {21, "frame too short or too long"},
     {22, "wrong CRC"},
     {23, "for another address"},
+    {24, "wrong line, no colon, no CR LF, another character or length not allowed"},
+    {25, "wrong LRC"},
     {31, "exception 1, unknown function"},
     {32, "exception 2, no such register, or not to be written"},
     {33, "exception 3, value, quantity, byte count, test code or length not allowed"},
@@ -39,7 +41,8 @@ static const struct row meanings[] = {
 };
 
 static const struct row controls[] = {
-    {0x02, "STX"}, {0x03, "ETX"}, {0x04, "EOT"}, {0x05, "ENQ"}, {0x06, "ACK"}, {0x15, "NAK"},
+    {0x02, "STX"}, {0x03, "ETX"}, {0x04, "EOT"}, {0x05, "ENQ"},
+    {0x06, "ACK"}, {0x0A, "LF"},  {0x0D, "CR"},  {0x15, "NAK"},
 };
 
 static const char *find(const struct row *rows, size_t count, unsigned number) {
@@ -51,11 +54,12 @@ static const char *find(const struct row *rows, size_t count, unsigned number) {
     return NULL;
 }
 
+static void show_title(FILE *to, const char *title, struct bytes bytes) {
+    fprintf(to, "%-7s%s", title, bytes.length == 0 ? " none" : "");
+}
+
 static void show_hex(FILE *to, const char *title, struct bytes bytes) {
-    fprintf(to, "%-7s", title);
-    if (bytes.length == 0) {
-        fputs(" none", to);
-    }
+    show_title(to, title, bytes);
     for (size_t i = 0; i < bytes.length; i++) {
         fprintf(to, " %02X", bytes.first[i]);
     }
@@ -66,22 +70,32 @@ void show_frame(FILE *to, const char *title, struct bytes bytes) {
     fputs("\n", to);
 }
 
-static void show_character(unsigned character) {
+static void show_character(FILE *to, unsigned character) {
     const char *name = find(controls, sizeof controls / sizeof controls[0], character);
     if (name != NULL) {
-        fprintf(stderr, "<%s>", name);
+        fprintf(to, "<%s>", name);
     } else {
-        fputc(isprint((int)character) ? (int)character : '.', stderr);
+        fputc(isprint((int)character) ? (int)character : '.', to);
     }
+}
+
+/* Bytes as characters, of each the bits in the mask, behind a gap where there are any. */
+static void show_text(FILE *to, const char *gap, struct bytes bytes, unsigned mask) {
+    fputs(bytes.length == 0 ? "" : gap, to);
+    for (size_t i = 0; i < bytes.length; i++) {
+        show_character(to, bytes.first[i] & mask);
+    }
+    fputs("\n", to);
+}
+
+void show_line(FILE *to, const char *title, struct bytes bytes) {
+    show_title(to, title, bytes);
+    show_text(to, " ", bytes, 0xFFu);
 }
 
 void show_characters(const char *title, struct bytes bytes) {
     show_hex(stderr, title, bytes);
-    fputs(bytes.length == 0 ? "" : "  ", stderr);
-    for (size_t i = 0; i < bytes.length; i++) {
-        show_character(bytes.first[i] & 0x7Fu);
-    }
-    fputs("\n", stderr);
+    show_text(stderr, "  ", bytes, 0x7Fu);
 }
 
 void show_number(unsigned number) {

@@ -15,7 +15,10 @@ struct bytes {
 /* Bytes in hex. */
 void show_frame(FILE *to, const char *title, struct bytes bytes);
 
-/* Bytes in hex and as characters without their top bit, control characters by name. */
+/* Bytes as characters, control characters by name. */
+void show_line(FILE *to, const char *title, struct bytes bytes);
+
+/* Bytes in hex and as such characters, without their top bit. */
 void show_characters(const char *title, struct bytes bytes);
 
 /* The number given back, in words too. */
