@@ -53,7 +53,7 @@ sealed-same-length buffer n =
     (λ _. refl)
 
 -- a body stored at the front of a buffer
-front : (buffer body : List ℕ) → length body ≤ length buffer → sets buffer 0 body ≡ body ++ drop (length body) buffer
+pub front : (buffer body : List ℕ) → length body ≤ length buffer → sets buffer 0 body ≡ body ++ drop (length body) buffer
 front buffer body h =
     sets-eq body buffer 0 (omega arith) ∙ ap (λ (k : ℕ). body ++ drop k buffer) (zero-add (length body))
 

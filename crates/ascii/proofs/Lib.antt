@@ -1,0 +1,9 @@
+pub mod Hexadecimal
+pub mod Stores
+pub mod Colon
+pub mod Taken
+pub mod Written
+pub mod Faults
+pub mod Answers
+pub mod Claims
+pub mod Single

@@ -1,0 +1,4 @@
+pub mod Hexadecimal
+pub mod Line
+pub mod Promise
+pub mod Claims
