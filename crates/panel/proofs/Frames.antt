@@ -1,5 +1,5 @@
--- `vb_rtu` keeps the promise of `rtu::frame`, of the answer that its result holds. So the demands that the library meets hold
--- of it as they stand.
+-- `vb_rtu` keeps the promise of `rtu::frame`, and `vb_ascii` that of `ascii::line`, of the answer that its result holds. So the
+-- demands that the library meets hold of both as they stand.
 -- Assumes nothing.
 use mathlib.Core.Path.{_≡_, ap₂, subst}
 use mathlib.Core.List.{List}
@@ -7,12 +7,16 @@ use Prim.Native.Nat.{ℕ, _/_, _%_, _≤_, _<_}
 use native.Mathlib.Omega.{arith}
 use lib.IntN.{ℤ}
 use Rattle.modbus.specs.declared.Answered.{Answered}
+use Rattle.modbus.specs.Outcome.{Outcome}
+use Rattle.modbus.specs.Promise.{Gives}
 use Rattle.call.specs.Call.{Call}
 use Rattle.call.specs.Promise.{Untouched}
 use Rattle.call.specs.Demands.{OfCall}
 use Rattle.rtu.specs.Promise.{Acts}
 use Rattle.rtu.proofs.Replies.{frame-reply-short}
 use Rattle.rtu.proofs.Demands.{demand-1-frame}
+use Rattle.ascii.specs.Line.{actedOn}
+use Rattle.ascii.proofs.Claims.{demand-1-line, line-reply-short}
 use Rattle.panel.specs.Calls.{result, answerIn}
 use Rattle.panel.specs.Promise.{longestReply}
 
@@ -26,7 +30,7 @@ answer-held n e = ap₂ (λ (a b : ℕ). record { number = a; len = b }) (omega 
 pub result-single : {r q : ℕ} → r % 256 ≡ q % 256 → r / 256 ≡ q / 256 → r ≡ q
 result-single n l = omega arith
 
--- ---- a frame
+-- ---- a frame, and a line
 
 -- an answer's length has room in a result
 pub acts-short : {call : Call} {frame : List ℕ} {a : Answered} {after : List ℕ} {left : List ℤ} → Acts call frame a after left
@@ -35,6 +39,17 @@ acts-short {call} {frame} x =
     let len = x .outcome .sends .len in
     let short = frame-reply-short call frame in
     omega arith
+
+pub line-short : (call : Call) (line : List ℕ) {a : Answered} {before after : List ℕ} {left : List ℤ}
+    → Gives (actedOn call line) a before after left → a .len ≤ longestReply
+line-short call line g =
+    let len = g .sends .len in
+    let short = line-reply-short call line in
+    omega arith
+
+pub gives-in : (r : ℕ) {o : Outcome} {before after : List ℕ} {left : List ℤ} {a : Answered} → a .number < 256
+    → r ≡ result (a .number) (a .len) → Gives o a before after left → Gives o (answerIn r) before after left
+gives-in r {o} {before} {after} {left} n e = subst (λ (x : Answered). Gives o x before after left) (answer-held n e)
 
 module _ {call : Call} {after : List ℕ} {left : List ℤ} (r : ℕ) where
   -- what the library promises of its answer is promised of the result
@@ -45,6 +60,10 @@ module _ {call : Call} {after : List ℕ} {left : List ℤ} (r : ℕ) where
   -- every call that keeps its promise meets demand 1
   pub demand-1-rtu : (frame : List ℕ) → Acts call frame (answerIn r) after left → OfCall call (answerIn r) after left
   demand-1-rtu frame = demand-1-frame call frame
+
+  pub demand-1-ascii : (line : List ℕ) → Gives (actedOn call line) (answerIn r) (call .buffer) after left
+      → OfCall call (answerIn r) after left
+  demand-1-ascii line = demand-1-line call line
 
   -- where nothing is replied, as after the caller's fault, the result is the number itself
   pub silent-result : {number : ℕ} → Untouched number call (answerIn r) after left → r ≡ number

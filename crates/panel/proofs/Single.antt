@@ -60,6 +60,17 @@ rtu =
           & refl;
     }
 
+pub ascii : OneOutcome panel.vb_ascii.ended panel.vb_ascii.Reads.Asked panel.vb_ascii.Reads.Post
+ascii =
+    record {
+      asksNothing = λ κs a. tt;
+      single = λ κs a o u p q.
+          result-single (single (p .sends .given) (q .sends .given)) (single (p .sends .len) (q .sends .len))
+          & single (p .table) (q .table)
+          & single (p .sends .sent) (q .sends .sent)
+          & refl;
+    }
+
 pub playback : OneOutcome panel.vb_playback.ended panel.vb_playback.Reads.Asked panel.vb_playback.Reads.Post
 playback = record { asksNothing = λ κs a. tt; single = λ κs a o u p q. lent-single p q .0 & lent-single p q .1 & refl }
 

@@ -10,7 +10,9 @@ ghost use Rattle.text.specs.Numbers.{width};
 ghost use Rattle.text.specs.Reading.{readNumber, readValue};
 ghost use Rattle.rkc.specs.Outcome.{received, idled};
 ghost use Rattle.state.specs.State.{unpacked};
+ghost use Rattle.modbus.specs.Promise.{Gives};
 ghost use Rattle.rtu.specs.Promise.{Acts};
+ghost use Rattle.ascii.specs.Line.{actedOn};
 ghost use Rattle.capture.specs.Show.{Shows};
 ghost use Rattle.playback.specs.Playback.{playNumber, played};
 ghost use Rattle.panel.specs.Calls.{result, answerIn, isCallFault, linkStartNumber, linkStart, textNumber, textLeft};
@@ -126,6 +128,19 @@ pub extern "C" fn vb_rtu(table: &mut [i32], reply: &mut [u8], address: u8, frame
         (now (frame .entry)) (answerIn r) (now (reply .exit)) (now (table .exit)) ⌝ }
 {
     let answered = rtu::frame(table, reply, address, frame);
+    result(answered.number, answered.len)
+}
+
+// One line of Modbus ASCII.
+#[no_mangle]
+pub extern "C" fn vb_ascii(table: &mut [i32], reply: &mut [u8], address: u8, line: &[u8]) -> u32
+    ensures { λ r. ⌜ Gives (actedOn (record {
+      table = now (table .entry);
+      buffer = now (reply .entry);
+      address = address;
+    }) (now (line .entry))) (answerIn r) (now (reply .entry)) (now (reply .exit)) (now (table .exit)) ⌝ }
+{
+    let answered = ascii::line(table, reply, address, line);
     result(answered.number, answered.len)
 }
 
