@@ -1,37 +1,39 @@
 -- What is claimed of lines of Modbus ASCII, and demand 1 on this line.
 -- Assumes nothing.
-use mathlib.Core.Path.{_≡_, refl, sym, ap, ap₂, _∙_}
-use mathlib.Core.Logic.{⊎-elim}
-use mathlib.Core.Bool.{true, false, _&&_}
+use mathlib.Core.Path.{_≡_, sym, ap, ap₂, _∙_}
+use mathlib.Core.Bool.{Bool, _&&_}
 use mathlib.Core.List.{List, [], _∷_, _++_}
-use Prim.Native.Nat.{ℕ, suc, _+_, _-_, _*_, _/_, _%_, _≤_, _<_}
+use Prim.Native.Nat.{ℕ, _+_, _-_, _≤_}
 use native.Mathlib.Omega.{arith}
-use borrow.Author.Tests.{le-leb, leb-true, eqb-true, eq-eqb}
-use lib.Dec.{eqb, leb}
+use borrow.Author.Tests.{le-leb}
+use lib.Dec.{leb}
 use lib.IntN.{ℤ}
-use lib.ListN.{length, getD, take, drop, length-append, length-drop, take-append-drop}
-use lib.Seq.{drop-cons, drop-length, take-at, drop-at, getD-at, getD-append-add, take-append-seam}
-use Rattle.numbers.specs.Numbers.{none, leastBuffer}
-use Rattle.numbers.proofs.Tests.{both}
-use Rattle.numbers.proofs.Order.{last-met, passed, test-held}
-use Rattle.crc.specs.Crc.{Bytes, framed}
+use lib.ListN.{length}
+use lib.Seq.{take-at}
+use Rattle.numbers.specs.Numbers.{none, unless, firstMet, unlessMet}
+use Rattle.crc.specs.Crc.{crc16Of, lowFirst, framed}
 use Rattle.crc.specs.Crc as crc
+use Rattle.crc.proofs.Framed.{length-framed, framed-right}
 use Rattle.modbus.specs.declared.Answered.{Answered}
 use Rattle.modbus.specs.Outcome.{Outcome, silent}
 use Rattle.modbus.specs.Rules.{acted}
 use Rattle.modbus.specs.Promise.{Gives}
 use Rattle.modbus.proofs.Acting.{gives-by}
-use Rattle.call.specs.Call.{Call, callFault, sentAs, sending, answeredAs}
+use Rattle.call.specs.Call.{Call, refusal, sending, answeredAs}
 use Rattle.call.specs.Demands.{OfCall}
-use Rattle.call.proofs.Answered.{reply-bound}
+use Rattle.call.proofs.Answered.{as-sent, reply-bound}
 use Rattle.call.proofs.Demands.{demand-1-call}
 use Rattle.rtu.specs.Frame as rtu
-use Rattle.ascii.specs.Hexadecimal.{hexOf, allHex, isHex, bytesOf}
-use Rattle.ascii.specs.Line.{wrongLine, wrongLrc, colon, CR, LF, lrcOf, lineOf, dropped, behindColon, endsInCrLf, beforeCrLf}
-use Rattle.ascii.specs.Line.{fewest, most, rightNumber, makeBytes, rightForm, bytesIn, bodyOf, lrcIn, rightLrc, lineFault, actedOn}
+use Rattle.rtu.proofs.Refusals.{frame-crc}
+use Rattle.rtu.proofs.Replies as frames
+use Rattle.ascii.specs.Hexadecimal.{bytesOf}
+use Rattle.ascii.specs.Line.{wrongLine, wrongLrc, lineOf, dropped, behindColon, endsInCrLf, beforeCrLf, makeBytes}
+use Rattle.ascii.specs.Line.{rightForm, bytesIn, bodyOf, rightLrc, lineFault, actedOn}
 use Rattle.ascii.specs.Claims.{Body, SameOutcome, OfLines}
+use Rattle.ascii.proofs.Colon.{dropped-front, behind-front}
 use Rattle.ascii.proofs.Written.{line-length}
 use Rattle.ascii.proofs.Answers.{as-call}
+use Rattle.ascii.proofs.Apart.{line-body, line-no-fault, line-again}
 
 -- ---- demand 1
 
@@ -45,3 +47,74 @@ pub line-reply-short : (call : Call) (line : List ℕ) → length (actedOn call 
 unfolding actedOn
 line-reply-short call line =
     reply-bound lineOf 255 (λ body h. omega (arith, line-length body)) call (lineFault line) (bodyOf (bytesIn line))
+
+-- ---- a colon starts afresh
+
+module _ (before line : List ℕ) (h : 1 ≤ dropped line) where
+  same-bytes : bytesIn (before ++ line) ≡ bytesIn line
+  unfolding bytesIn
+  same-bytes = ap (λ (rest : List ℕ). bytesOf (beforeCrLf rest)) (behind-front before line h)
+
+  same-form : rightForm (before ++ line) ≡ rightForm line
+  unfolding rightForm
+  same-form =
+      ap₂ (λ (b : Bool) (rest : List ℕ). b && endsInCrLf rest && makeBytes (beforeCrLf rest))
+      (le-leb 1 (dropped (before ++ line)) (omega (arith, dropped-front before line h)) ∙ sym (le-leb 1 (dropped line) h))
+      (behind-front before line h)
+
+  same-fault : lineFault (before ++ line) ≡ lineFault line
+  unfolding lineFault
+  same-fault =
+      ap₂ (λ (form : Bool) (bytes : List ℕ). firstMet (unless form wrongLine ∷ unless (rightLrc bytes) wrongLrc ∷ [])) same-form same-bytes
+
+  starts-afresh : (call : Call) → actedOn call (before ++ line) ≡ actedOn call line
+  unfolding actedOn
+  starts-afresh call =
+      ap₂ (λ (fault : ℕ) (bytes : List ℕ). answeredAs lineOf call fault (bodyOf bytes)) same-fault same-bytes
+
+-- ---- both modes
+
+module _ (call : Call) (body : List ℕ) (b : Body body) where
+  -- what comes of the message, whatever carries it
+  abbrev message : Outcome
+  message = unlessMet (refusal call none) (silent (call .table)) (acted (call .table) (call .address) body)
+
+  by-line : actedOn call (lineOf body) ≡ sending lineOf message
+  by-line =
+      as-call call (lineOf body)
+      ∙ ap₂ (answeredAs lineOf call) (line-no-fault body b) (line-body body b)
+      ∙ as-sent lineOf call none body
+
+  frame-body : crc.bodyOf (framed body) ≡ body
+  unfolding framed
+  frame-body = take-at body (lowFirst (crc16Of body)) (length (framed body) - 2) (omega (arith, length-framed body))
+
+  by-frame : rtu.actedOn call (framed body) ≡ sending framed message
+  by-frame =
+      let long = length-framed body in
+      let least = b .least in
+      let most = b .notMore in
+      frames.as-call call (framed body)
+      ∙ ap₂ (answeredAs framed call) (frame-crc (framed body) (omega arith) (omega arith) (sym (framed-right body))) frame-body
+      ∙ as-sent framed call none body
+
+  same-outcome : SameOutcome (rtu.actedOn call (framed body)) (actedOn call (lineOf body))
+  same-outcome =
+      record {
+        number = ap (λ (o : Outcome). o .number) by-line ∙ sym (ap (λ (o : Outcome). o .number) by-frame);
+        table = ap (λ (o : Outcome). o .table) by-line ∙ sym (ap (λ (o : Outcome). o .table) by-frame);
+        reply =
+            (message .reply, ap (λ (o : Outcome). o .reply) by-frame, ap (λ (o : Outcome). o .reply) by-line);
+      }
+
+-- ---- all that is claimed
+
+pub lines-claimed : OfLines
+lines-claimed =
+    record {
+      takenApart = λ body b. (line-no-fault body b, line-body body b);
+      madeAgain = line-again;
+      afresh = λ call before line h. starts-afresh before line h call;
+      bothModes = same-outcome;
+      replyFits = λ call line. omega (arith, line-reply-short call line);
+    }

@@ -5,5 +5,6 @@ pub mod Taken
 pub mod Written
 pub mod Faults
 pub mod Answers
+pub mod Apart
 pub mod Claims
 pub mod Single

@@ -19,7 +19,7 @@ use Rattle.ascii.proofs.Hexadecimal.{hex-length, hex-append}
 use Rattle.ascii.proofs.Stores.{set-sets, sets-append, front-read, sets-over}
 
 -- the characters of a body with its LRC, and the length of a line
-digits-length : (body : List ℕ) (lrc : ℕ) → length (hexOf (body ++ (lrc ∷ []))) ≡ 2 * length body + 2
+pub digits-length : (body : List ℕ) (lrc : ℕ) → length (hexOf (body ++ (lrc ∷ []))) ≡ 2 * length body + 2
 digits-length body lrc = omega (arith, hex-length (body ++ (lrc ∷ [])), length-append body (lrc ∷ []))
 
 pub line-length : (body : List ℕ) → length (lineOf body) ≡ 2 * length body + 5

@@ -1,13 +1,15 @@
 -- What comes of a call: a refusal, or the message's outcome with its reply in the form of the line.
 -- Assumes nothing.
 use mathlib.Core.Path.{_≡_, refl, sym, ap, _∙_}
+use mathlib.Core.Bool.{Bool, true, false, cond}
 use mathlib.Core.List.{List, [], _∷_}
 use Prim.Native.Nat.{ℕ, _≤_}
 use native.Mathlib.Omega.{arith}
+use lib.Dec.{eqb}
 use lib.IntN.{ℤ}
 use lib.ListN.{length}
 use lib.Seq.{sets}
-use Rattle.numbers.specs.Numbers.{none}
+use Rattle.numbers.specs.Numbers.{none, unlessMet}
 use Rattle.numbers.proofs.Order.{is-refused, is-done, either-way}
 use Rattle.modbus.specs.declared.Answered.{Answered}
 use Rattle.modbus.specs.Outcome.{Outcome, silent}
@@ -32,6 +34,17 @@ module _ (form : List ℕ → List ℕ) (call : Call) (fault : ℕ) (body : List
   pub is-ruled : refusal call fault ≡ none → answeredAs form call fault body ≡ ruled
   unfolding answeredAs
   is-ruled = is-done (refusal call fault) (silent (call .table)) ruled
+
+  -- the line gives the outcome its form, and nothing else
+  pub as-sent : answeredAs form call fault body ≡ sending form (unlessMet (refusal call fault) (silent (call .table)) (acted (call .table) (call .address) body))
+  unfolding answeredAs
+  as-sent = by (eqb (refusal call fault) none)
+    where
+      by : (b : Bool)
+          → cond b ruled (silent (call .table) (refusal call fault))
+          ≡ sending form (cond b (acted (call .table) (call .address) body) (silent (call .table) (refusal call fault)))
+      by true = refl
+      by false = refl
 
   -- the caller's fault, or where there is none that of what the line brought
   pub fault-silent : (callFault call ≡ none → ⊥) → answeredAs form call fault body ≡ silent (call .table) (callFault call)

@@ -53,7 +53,7 @@ right-parts f e =
     let q = both (leb 2 (length f)) (eqb (crc16Of (bodyOf f)) (crcIn f)) e in
     (leb-true 2 (length f) (q .0), eqb-true (crc16Of (bodyOf f)) (crcIn f) (q .1))
 
-last-two : (f : List ℕ) → 2 ≤ length f → drop (length f - 2) f ≡ getD f (length f - 2) 0 ∷ getD f (length f - 1) 0 ∷ []
+pub last-two : (f : List ℕ) → 2 ≤ length f → drop (length f - 2) f ≡ getD f (length f - 2) 0 ∷ getD f (length f - 1) 0 ∷ []
 last-two f h =
     let e : suc (length f - 2) ≡ length f - 1 = omega arith in
     let e₁ : suc (length f - 1) ≡ length f = omega arith in
