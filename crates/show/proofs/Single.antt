@@ -30,6 +30,9 @@ register = record { asksNothing = λ κs a. tt; single = λ κs a o u p q. refl 
 pub quoted : OneOutcome show.quoted.ended show.quoted.Reads.Asked show.quoted.Reads.Post
 quoted = record { asksNothing = λ κs a. tt; single = λ κs a o u p q. refl & refl }
 
+pub quoted-up-to : OneOutcome show.quoted_up_to.ended show.quoted_up_to.Reads.Asked show.quoted_up_to.Reads.Post
+quoted-up-to = record { asksNothing = λ κs a. tt; single = λ κs a o u p q. refl & refl }
+
 pub count : OneOutcome show.count.ended show.count.Reads.Asked show.count.Reads.Post
 count = record { asksNothing = λ κs a. tt; single = λ κs a o u p q. refl & refl }
 

@@ -59,6 +59,13 @@ pub fn quoted(chars: &[u8]) {
     text(b"\"");
 }
 
+// The characters up to a place, if there are as many.
+pub fn quoted_up_to(chars: &[u8], to: usize) {
+    if to <= chars.len() {
+        quoted(&chars[..to]);
+    }
+}
+
 pub fn count(n: usize) {
     text(b" ");
     io::print_decimal(STDOUT_FILENO, n as u64);
