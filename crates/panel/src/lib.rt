@@ -140,8 +140,8 @@ pub extern "C" fn vb_ascii(table: &mut [i32], reply: &mut [u8], address: u8, lin
       address = address;
     }) (now (line .entry))) (answerIn r) (now (reply .entry)) (now (reply .exit)) (now (table .exit)) ⌝ }
 {
-    let answered = ascii::line(table, reply, address, line);
-    result(answered.number, answered.len)
+    let answer = ascii::line(table, reply, address, line);
+    result(answer.number, answer.len)
 }
 
 // The firmware sets an item, by its number from 1.
