@@ -15,8 +15,8 @@ long write(int file, const void *from, size_t n);
 void *memcpy(void *to, const void *from, size_t n);
 void *memset(void *to, int byte, size_t n);
 
-/* The longest array is a capture that is too long. */
-enum { GUARD = 8, GUARD_BYTE = 0xC3, ARRAY_MOST = VB_CAPTURE_BYTES + 512, BATCH_MOST = 1 << 20 };
+/* The longest arrays are a capture that is too long, and a line with as much before it. */
+enum { GUARD = 8, GUARD_BYTE = 0xC3, ARRAY_MOST = VB_CAPTURE_BYTES + 1024, BATCH_MOST = 1 << 20 };
 
 enum function {
     START_TABLE,
@@ -29,12 +29,13 @@ enum function {
     WRITE_TEXT,
     PLAYBACK,
     SHOW,
-    LAST_WRITE
+    LAST_WRITE,
+    ASCII
 };
 
 /* The lent arrays. The table's place also holds the value that a reading of text sets, the place
  * and the length that a showing sets, or the value and the records that a last write sets; the
- * input is a frame, number text or a capture. */
+ * input is a frame, number text, a capture or a line. */
 enum array { STATE, TABLE, REPLY, INPUT, ARRAYS };
 
 /* What a function does not take means nothing. */
@@ -78,8 +79,10 @@ static uint32_t call(const struct request *r) {
         return vb_playback(table, tn, r->address, input, in);
     case SHOW:
         return vb_show(input, in, r->frame, (uint32_t *)table, (uint32_t *)table + 1);
-    default:
+    case LAST_WRITE:
         return vb_last_write(input, in, r->address, r->item, table, (uint32_t *)table + 1);
+    default:
+        return vb_ascii(table, tn, reply, rn, r->address, input, in);
     }
 }
 

@@ -11,16 +11,6 @@ use lib.ListN.{length, getD, take, drop}
 use lib.Seq.{take-suc, length-take-le, drop-append-add}
 use Rattle.ascii.specs.Line.{colon, dropped, behindColon}
 
-pub dropped-short : (line : List ℕ) → dropped line ≤ length line
-unfolding dropped
-dropped-short [] = omega arith
-dropped-short (c ∷ line) = by (dropped line) (dropped-short line) (leb 1 (dropped line)) (eqb c colon)
-  where
-    by : (n : ℕ) → n ≤ length line → (some here : Bool) → cond some (suc n) (cond here 1 0) ≤ suc (length line)
-    by n h true here = omega arith
-    by n h false true = omega arith
-    by n h false false = omega arith
-
 -- what stands in front of a line that has a colon is dropped too
 pub dropped-front : (before line : List ℕ) → 1 ≤ dropped line → dropped (before ++ line) ≡ length before + dropped line
 unfolding dropped
@@ -51,6 +41,16 @@ module _ (line : List ℕ) (j : ℕ) (inside : j < length line) where
   other-here h = ap dropped (take-suc line j 0 inside) ∙ last-other (take j line) (getD line j 0) h
 
 -- ---- a line and its last colon
+
+pub dropped-short : (line : List ℕ) → dropped line ≤ length line
+unfolding dropped
+dropped-short [] = omega arith
+dropped-short (c ∷ line) = by (dropped line) (dropped-short line) (leb 1 (dropped line)) (eqb c colon)
+  where
+    by : (n : ℕ) → n ≤ length line → (some here : Bool) → cond some (suc n) (cond here 1 0) ≤ suc (length line)
+    by n h true here = omega arith
+    by n h false true = omega arith
+    by n h false false = omega arith
 
 -- what stands there is a colon
 pub colon-there : (line : List ℕ) → 1 ≤ dropped line → getD line (dropped line - 1) 0 ≡ colon

@@ -8,6 +8,7 @@
 //! Numbers that a call can meet are tried in their order. Numbers 1 to 9 leave the state, the
 //! table and the reply buffer as they came; bytes of the buffer past a reply stay.
 
+pub mod ascii;
 pub mod capture;
 pub mod items;
 pub mod last_write;
@@ -96,8 +97,9 @@ pub fn idle(state: &mut [u8], reply: &mut [u8], structure: u8, now: u32) -> u32 
     stepped(state, reply, structure, link::idle(phase, now))
 }
 
-/// One Modbus RTU frame. RTU has no structure or link state, and its address is not 0.
-pub fn rtu(table: &mut [i32], reply: &mut [u8], address: u8, frame: &[u8]) -> u32 {
+/// What is wrong with a call of either Modbus line: 1 to 4, or 0. Modbus has no structure and no link
+/// state, and its address is not 0.
+fn modbus_fault(table: &[i32], reply: &[u8], address: u8) -> u32 {
     let fault = items::table_fault(table);
     if fault != 0 {
         return fault;
@@ -108,7 +110,26 @@ pub fn rtu(table: &mut [i32], reply: &mut [u8], address: u8, frame: &[u8]) -> u3
     if address == 0 || address > 99 {
         return 4;
     }
+    0
+}
+
+/// One Modbus RTU frame.
+pub fn rtu(table: &mut [i32], reply: &mut [u8], address: u8, frame: &[u8]) -> u32 {
+    let fault = modbus_fault(table, reply, address);
+    if fault != 0 {
+        return fault;
+    }
     let (number, answer) = modbus::answer(table, address, frame);
+    replied(reply, number, &answer)
+}
+
+/// One Modbus ASCII line, with whatever came before it.
+pub fn ascii(table: &mut [i32], reply: &mut [u8], address: u8, line: &[u8]) -> u32 {
+    let fault = modbus_fault(table, reply, address);
+    if fault != 0 {
+        return fault;
+    }
+    let (number, answer) = ascii::answer(table, address, line);
     replied(reply, number, &answer)
 }
 

@@ -63,6 +63,12 @@ impl Instrument {
         let result = reference::rtu(&mut self.table, &mut self.reply, self.address, frame);
         self.taken_apart(result)
     }
+
+    /// A line of Modbus ASCII.
+    fn ascii(&mut self, line: &[u8]) -> (u32, Vec<u8>) {
+        let result = reference::ascii(&mut self.table, &mut self.reply, self.address, line);
+        self.taken_apart(result)
+    }
 }
 
 /// Bytes as pairs of hexadecimal digits.
@@ -243,6 +249,55 @@ fn last(address: u8, item: u32, capture: &str) {
     );
 }
 
+/// The LRC of bytes.
+fn lrc(body: &str) {
+    println!(
+        "lrc {} -> {:02X}",
+        body,
+        reference::ascii::lrc(&bytes(body))
+    );
+}
+
+/// The outcome of a line whose characters are given without CR and LF, as those of the reply are.
+fn outcome(mut instrument: Instrument, line: &str) -> String {
+    let mut sent = line.as_bytes().to_vec();
+    sent.extend(b"\r\n");
+    let (number, reply) = instrument.ascii(&sent);
+    if reply.is_empty() {
+        return number.to_string();
+    }
+    let shown = reply.strip_suffix(b"\r\n").expect("CR and LF at the end");
+    format!("{}: \"{}\"", number, String::from_utf8_lossy(shown))
+}
+
+/// A line of Modbus ASCII.
+fn ascii(address: u8, line: &str) {
+    let outcome = outcome(Instrument::at(address), line);
+    println!("ascii {:02X}: \"{}\" -> {}", address, line, outcome);
+}
+
+/// The same, after the firmware has put an item.
+fn ascii_with(address: u8, id: &str, value: i32, line: &str) {
+    let mut instrument = Instrument::at(address);
+    instrument.put(id, value);
+    let outcome = outcome(instrument, line);
+    println!(
+        "ascii {:02X}, {} {}: \"{}\" -> {}",
+        address, id, value, line, outcome
+    );
+}
+
+/// A line of Modbus ASCII with all its bytes.
+fn ascii_bytes(address: u8, line: &str) {
+    let (number, reply) = Instrument::at(address).ascii(&bytes(line));
+    if reply.is_empty() {
+        println!("line {:02X}: {} -> {}", address, line, number);
+    } else {
+        let reply = hex(&reply);
+        println!("line {:02X}: {} -> {}: {}", address, line, number, reply);
+    }
+}
+
 /// Document 01.
 fn specification() {
     read("PB", "-.5");
@@ -373,6 +428,54 @@ fn last_writes() {
     }
 }
 
+/// Document 001, Modbus over Serial Line, and the messages of the RTU examples as lines.
+fn ascii_lines() {
+    lrc("01 83 03");
+    ascii(1, ":01030000007E7E");
+    lrc("53");
+    lrc("FF 54");
+    ascii_bytes(1, "3A 30 31 30 38 30 30 30 30 30 30 35 42 39 43 0D 0A");
+    lrc("06 03 06 02 2B 00 00 00 63");
+    lrc("01 08 00 00 96 00");
+    ascii_bytes(1, "3A 30 31 30 38 30 30 30 30 39 36 30 30 36 31 0D 0A");
+    lrc("01 08 00 00 1F 34");
+    ascii(1, ":010800001F34A4");
+    ascii(1, ":010800011F34A3");
+    ascii(1, ":010600100102E6");
+    ascii(1, ":010600F40032D3");
+    ascii_with(2, "M1", 25, ":020300000004F7");
+    ascii(2, ":02030000007E7D");
+    ascii(1, ":01100010000306FF6A03E800641E");
+    ascii(1, ":011000F40002040032003291");
+    ascii(1, ":010100130013D8");
+}
+
+/// Document 02's edges of a line.
+fn ascii_edges() {
+    ascii(1, ":0107F8");
+    ascii(1, ":0108F7");
+    ascii(1, ":01FF");
+    ascii(1, ":010800001F34A");
+    ascii(1, ":010800001F34A5");
+    ascii(1, ":010800001F345C");
+    ascii(1, ":020800001F34A3");
+    ascii(1, ":000800001F34A5");
+    ascii(1, ":0108:010800001F34A4");
+    ascii(1, "no line:010800001F34A4");
+    ascii(1, ":010800001F34A4:0108");
+    ascii(1, ":010800001F34A4:0108F8");
+    ascii(1, "010800001F34A4");
+    ascii(1, ":010800001f34a4");
+    ascii(1, ":01 08 00 00 1F 34 A4");
+    ascii_bytes(1, "3A 30 31 30 37 46 38 0D 0A");
+    ascii_bytes(1, "3A 30 31 30 37 46 38 0D");
+    ascii_bytes(1, "3A 30 31 30 37 46 38 0A");
+    ascii_bytes(1, "3A 30 31 30 37 46 38 0A 0D");
+    ascii_bytes(1, "3A 30 31 30 37 46 38 0D 0A 0A");
+    ascii_bytes(1, "BA 30 31 30 37 46 38 0D 0A");
+    ascii_bytes(1, "3A 30 B1 30 37 46 38 0D 0A");
+}
+
 fn main() {
     specification();
     sa100l();
@@ -382,4 +485,6 @@ fn main() {
     modbus_documents();
     captures();
     last_writes();
+    ascii_lines();
+    ascii_edges();
 }

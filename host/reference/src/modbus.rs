@@ -1,5 +1,5 @@
-//! Modbus RTU: the CRC, registers and the four functions: 03H, 06H and 08H as document 01 has them,
-//! 10H as document 02 does.
+//! Modbus RTU: the CRC; and what both lines of Modbus share: registers and the four functions, 03H,
+//! 06H and 08H as document 01 has them, 10H as document 02 does.
 
 use crate::items;
 
@@ -60,23 +60,29 @@ pub fn answer(table: &mut [i32], address: u8, frame: &[u8]) -> (u32, Vec<u8>) {
     if check != crc(body) {
         return (22, vec![]);
     }
+    let (number, reply) = message(table, address, body);
+    (number, reply.map_or(vec![], with_crc))
+}
+
+/// One message, a frame or a line without what each adds to it: the number given back and the
+/// reply, none where there is silence. It is the same for both lines.
+pub fn message(table: &mut [i32], address: u8, body: &[u8]) -> (u32, Option<Vec<u8>>) {
     // 23: other address. Address 0 is somebody else's too.
     if body[0] != address {
-        return (23, vec![]);
+        return (23, None);
     }
     match function(table, body) {
-        Ok(reply) => (0, with_crc(reply)),
+        Ok(reply) => (0, Some(reply)),
         Err(code) => {
-            // Address, function with top bit set, code, CRC. A function of 80H and above keeps
-            // its value.
+            // Address, function with top bit set, code. A function of 80H and above keeps its
+            // value.
             let exception = vec![address, body[1] | 0x80, code];
-            (30 + u32::from(code), with_crc(exception))
+            (30 + u32::from(code), Some(exception))
         }
     }
 }
 
-/// Does what a frame asks. The body is the frame without its CRC; so is the reply. A refusal is
-/// the exception code.
+/// Does what a message asks. A refusal is the exception code.
 fn function(table: &mut [i32], body: &[u8]) -> Result<Vec<u8>, u8> {
     match body[1] {
         0x03 => read(table, body),
@@ -87,7 +93,7 @@ fn function(table: &mut [i32], body: &[u8]) -> Result<Vec<u8>, u8> {
     }
 }
 
-/// 03H, 06H and 08H have frames of 8 bytes, so a body of 6.
+/// 03H, 06H and 08H have frames of 8 bytes with the CRC, so a body of 6.
 fn check_length(body: &[u8]) -> Result<(), u8> {
     if body.len() == 6 {
         Ok(())

@@ -16,6 +16,7 @@ pub enum Function {
     Playback,
     Show,
     LastWrite,
+    Ascii,
 }
 
 impl Function {
@@ -33,6 +34,7 @@ impl Function {
             Function::Playback => "vb_playback",
             Function::Show => "vb_show",
             Function::LastWrite => "vb_last_write",
+            Function::Ascii => "vb_ascii",
         }
     }
 }
@@ -55,15 +57,16 @@ pub struct Call {
     /// and the length, for a last write the value and the records.
     pub table: Vec<i32>,
     pub reply: Vec<u8>,
-    /// A frame, number text, or a capture.
+    /// A frame, number text, a capture, or a line.
     pub input: Vec<u8>,
 }
 
 /// What stands before and behind each lent array in the driver.
 const GUARD: [u8; 8] = [0xC3; 8];
 
-/// The driver's room for one lent array, in bytes: a capture may be too long.
-const ARRAY_MOST: usize = 65_536 + 512;
+/// The driver's room for one lent array, in bytes: a capture may be too long, and as much may stand
+/// before a line.
+const ARRAY_MOST: usize = 65_536 + 1024;
 
 /// The names of the lent arrays, in the driver's order.
 const ARRAYS: [&str; 4] = ["state", "table", "reply", "input"];
@@ -117,6 +120,7 @@ impl Call {
             Function::Playback => reference::playback(table, self.address, input),
             Function::Show => reference::show_in(table, input, self.frame),
             Function::LastWrite => reference::last_write_in(table, input, self.address, self.item),
+            Function::Ascii => reference::ascii(table, reply, self.address, input),
         }
     }
 

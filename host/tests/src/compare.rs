@@ -4,6 +4,8 @@
 use crate::call::{Call, Function};
 use crate::failure::{Checked, Failure};
 use crate::library::Library;
+use reference::ascii::bytes_of;
+use std::collections::HashMap;
 
 /// A batch goes to the driver once it has this many bytes. With the last call it stays below the
 /// driver's limit of 2^20, also where that call brings the longest capture.
@@ -37,9 +39,9 @@ pub struct Compare {
     /// Calls whose outcomes were found the same.
     calls: u64,
     /// How often each number was given back by each function.
-    counts: [[u64; 256]; 11],
-    /// The same for frames, by the Modbus function that they ask for.
-    asked: Vec<[u64; 256]>,
+    counts: [[u64; 256]; 12],
+    /// The same for frames and for lines, by the Modbus function that they ask for.
+    asked: HashMap<(u8, u8), [u64; 256]>,
     /// How often a last write was found.
     found: u64,
 }
@@ -53,8 +55,8 @@ impl Compare {
             filling: Batch::default(),
             running: Batch::default(),
             calls: 0,
-            counts: [[0; 256]; 11],
-            asked: vec![[0; 256]; 256],
+            counts: [[0; 256]; 12],
+            asked: HashMap::new(),
             found: 0,
         })
     }
@@ -88,8 +90,9 @@ impl Compare {
     fn counted(&mut self, call: &Call, result: u32) {
         let number = (result % 256) as usize;
         self.counts[call.function as usize][number] += 1;
-        if let (Function::Rtu, Some(asked)) = (call.function, call.input.get(1)) {
-            self.asked[usize::from(*asked)][number] += 1;
+        if let Some(asked) = asked(call) {
+            let counts = self.asked.entry((call.function as u8, asked));
+            counts.or_insert([0; 256])[number] += 1;
         }
         if call.function == Function::LastWrite && result >= 256 {
             self.found += 1;
@@ -101,9 +104,10 @@ impl Compare {
         &self.counts[function as usize]
     }
 
-    /// How often each number was given back to frames that ask for a Modbus function.
-    pub fn counts_asked(&self, function: u8) -> &[u64; 256] {
-        &self.asked[usize::from(function)]
+    /// How often a function gave each number back to what asks for a Modbus function.
+    pub fn counts_asked(&self, function: Function, asked: u8) -> [u64; 256] {
+        let counts = self.asked.get(&(function as u8, asked));
+        counts.copied().unwrap_or([0; 256])
     }
 
     /// How often a last write was found.
@@ -162,6 +166,15 @@ impl Compare {
         Err(Failure::no_answer(
             "the driver ended, and not again in the same calls".to_string(),
         ))
+    }
+}
+
+/// The Modbus function that a frame asks for, or a line with a message in it.
+fn asked(call: &Call) -> Option<u8> {
+    match call.function {
+        Function::Rtu => call.input.get(1).copied(),
+        Function::Ascii => bytes_of(&call.input).map(|bytes| bytes[1]),
+        _ => None,
     }
 }
 

@@ -1,6 +1,6 @@
 //! The numbers given back in a run: for each function those that the header lists, and no other; and
-//! likewise for each Modbus function that a frame can ask for. A last write must have been found, and
-//! not found.
+//! likewise for each Modbus function that a frame or a line can ask for. A last write must have been
+//! found, and not found.
 
 use crate::call::Function;
 use crate::compare::Compare;
@@ -9,7 +9,7 @@ use crate::failure::{Checked, Failure};
 /// The numbers that each function can give back. Number 46 of the specification, for an item whose
 /// value does not fit six characters, is none of them: a table with a value outside an item's range
 /// is refused before, and every value inside fits.
-const GIVEN: [(Function, &[usize]); 11] = [
+const GIVEN: [(Function, &[usize]); 12] = [
     (Function::StartTable, &[0, 1]),
     (Function::StartLink, &[0, 5]),
     (
@@ -26,23 +26,34 @@ const GIVEN: [(Function, &[usize]); 11] = [
     (Function::Playback, &[0, 1, 4, 51]),
     (Function::Show, &[0, 51, 52]),
     (Function::LastWrite, &[0, 4, 6, 51]),
+    (Function::Ascii, &[0, 1, 2, 3, 4, 23, 24, 25, 31, 32, 33]),
 ];
 
-/// The numbers that a frame can give back by the Modbus function that it asks for.
+/// What is looked at before a message, on either Modbus line. A line that is 24 asks for no function.
+const BEFORE: [(Function, &[usize]); 2] = [
+    (Function::Rtu, &[1, 2, 3, 4, 21, 22, 23]),
+    (Function::Ascii, &[1, 2, 3, 4, 23, 25]),
+];
+
+/// The numbers that a message can give back by the Modbus function that it asks for.
 const ASKED: [(u8, &[usize]); 4] = [
-    (0x03, &[0, 1, 2, 3, 4, 21, 22, 23, 32, 33]),
-    (0x06, &[0, 1, 2, 3, 4, 21, 22, 23, 32, 33]),
-    (0x08, &[0, 1, 2, 3, 4, 21, 22, 23, 33]),
-    (0x10, &[0, 1, 2, 3, 4, 21, 22, 23, 32, 33]),
+    (0x03, &[0, 32, 33]),
+    (0x06, &[0, 32, 33]),
+    (0x08, &[0, 33]),
+    (0x10, &[0, 32, 33]),
 ];
 
 pub fn reached(compare: &Compare) -> Checked<()> {
     for (function, given) in GIVEN {
         all_and_no_other(function.name(), compare.counts(function), given)?;
     }
-    for (function, given) in ASKED {
-        let name = format!("{} asked for {function:02X}H", Function::Rtu.name());
-        all_and_no_other(&name, compare.counts_asked(function), given)?;
+    for (function, before) in BEFORE {
+        for (asked, given) in ASKED {
+            let name = format!("{} asked for {asked:02X}H", function.name());
+            let mut given = [before, given].concat();
+            given.sort_unstable();
+            all_and_no_other(&name, &compare.counts_asked(function, asked), &given)?;
+        }
     }
     found_and_not(compare)
 }

@@ -95,7 +95,8 @@ fn call(request: &mut Request) -> u32 {
         7 => reference::write_text(request.decimals, request.value, input),
         8 => reference::playback(table, request.address, input),
         9 => reference::show_in(table, input, request.frame),
-        _ => reference::last_write_in(table, input, request.address, request.item),
+        10 => reference::last_write_in(table, input, request.address, request.item),
+        _ => reference::ascii(table, reply, request.address, input),
     }
 }
 

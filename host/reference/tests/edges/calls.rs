@@ -91,12 +91,14 @@ fn every_entry_outside_its_limits_is_2() {
             link.table[place] = value;
             refused(&mut link, |link| link.byte(EOT), 2);
             refused(&mut link, |link| link.rtu(&[]), 2);
+            refused(&mut link, |link| link.ascii(&[]), 2);
         }
         for value in [low, high] {
             let mut link = Link::start();
             link.table[place] = value;
             assert_eq!(link.byte(EOT), (0, vec![]));
             assert_eq!(link.rtu(&[]), (21, vec![]));
+            assert_eq!(link.ascii(&[]), (24, vec![]));
         }
     }
 }
@@ -154,8 +156,8 @@ fn an_idle_call_tries_3_4_and_5() {
     assert_eq!(link.idle(), (0, vec![]));
 }
 
-#[test]
-fn a_frame_tries_1_to_4_and_then_its_length() {
+/// A call of either Modbus line, of nothing: it tries 1 to 4 and then what it was handed.
+fn tries_1_to_4(call: fn(&mut Link) -> (u32, Vec<u8>), nothing: u32) {
     let mut link = Link {
         state: vec![],
         table: vec![i32::MAX; 11],
@@ -164,19 +166,29 @@ fn a_frame_tries_1_to_4_and_then_its_length() {
         structure: 3,
         now: 0,
     };
-    refused(&mut link, |link| link.rtu(&[]), 1);
+    refused(&mut link, call, 1);
     link.table = vec![i32::MAX; 12];
-    refused(&mut link, |link| link.rtu(&[]), 2);
+    refused(&mut link, call, 2);
     link.table = START.to_vec();
-    refused(&mut link, |link| link.rtu(&[]), 3);
+    refused(&mut link, call, 3);
     link.reply = vec![FILL; 256];
-    refused(&mut link, |link| link.rtu(&[]), 4);
+    refused(&mut link, call, 4);
     link.address = 100;
-    refused(&mut link, |link| link.rtu(&[]), 4);
+    refused(&mut link, call, 4);
     for address in [1, 99] {
         link.address = address;
-        refused(&mut link, |link| link.rtu(&[]), 21);
+        refused(&mut link, call, nothing);
     }
+}
+
+#[test]
+fn a_frame_tries_1_to_4_and_then_its_length() {
+    tries_1_to_4(|link| link.rtu(&[]), 21);
+}
+
+#[test]
+fn a_line_tries_1_to_4_and_then_its_characters() {
+    tries_1_to_4(|link| link.ascii(&[]), 24);
 }
 
 /// Both calls that take a state refuse it with 5.

@@ -1,5 +1,6 @@
 //! Both sides of each edge, through the raw data of the C face. Values come from the specification.
 
+mod ascii;
 mod block;
 mod calls;
 mod captures;
@@ -181,6 +182,12 @@ impl Link {
     pub fn rtu(&mut self, frame: &[u8]) -> (u32, Vec<u8>) {
         let before = self.reply.clone();
         let result = reference::rtu(&mut self.table, &mut self.reply, self.address, frame);
+        self.taken_apart(&before, result)
+    }
+
+    pub fn ascii(&mut self, line: &[u8]) -> (u32, Vec<u8>) {
+        let before = self.reply.clone();
+        let result = reference::ascii(&mut self.table, &mut self.reply, self.address, line);
         self.taken_apart(&before, result)
     }
 

@@ -1,4 +1,4 @@
-use super::{captures, several};
+use super::{ascii, captures, several};
 use crate::call::{Call, Function};
 use crate::compare::Compare;
 use crate::failure::Checked;
@@ -7,21 +7,30 @@ use crate::shapes::{
     bad_state, good_state, good_table, odd_state, odd_table, pattern, ADDRESSES, PHASES,
     REPLY_LENGTHS, STRUCTURES,
 };
+use reference::ascii::line_of;
 use reference::items::ITEMS;
 
 /// The calls that look at the table.
-const WITH_TABLE: [Function; 3] = [Function::Byte, Function::Rtu, Function::Put];
+const WITH_TABLE: [Function; 4] = [
+    Function::Byte,
+    Function::Rtu,
+    Function::Put,
+    Function::Ascii,
+];
 
 /// A call with nothing outside its limits.
 fn good(random: &mut Random, function: Function) -> Call {
     let phase = random.below(usize::from(PHASES)) as u8;
     // A frame that leaves the table, or one that writes; for a playback a capture of some.
-    let input = if function == Function::Playback {
-        captures::Parts::of(&captures::good(random, 3)).capture()
-    } else if random.one_in(2) {
+    let frame = if random.one_in(2) {
         vec![1, 8, 0, 0, 0x1F, 0x34, 0xE9, 0xEC]
     } else {
         several::accepted(random, 1)
+    };
+    let input = match function {
+        Function::Playback => captures::Parts::of(&captures::good(random, 3)).capture(),
+        Function::Ascii => line_of(frame[..frame.len() - 2].to_vec()),
+        _ => frame,
     };
     Call {
         address: 1,
@@ -65,6 +74,7 @@ pub fn together(compare: &mut Compare, random: &mut Random) -> Checked<()> {
         Function::Rtu,
         Function::Put,
         Function::Playback,
+        Function::Ascii,
     ];
     for _ in 0..50_000 {
         let function = random.pick(&functions);
@@ -87,6 +97,9 @@ pub fn together(compare: &mut Compare, random: &mut Random) -> Checked<()> {
         }
         if function == Function::Playback && random.one_in(3) {
             call.input = captures::any_capture(random);
+        }
+        if function == Function::Ascii && random.one_in(3) {
+            call.input = ascii::any_line(random, call.address);
         }
         if random.one_in(3) {
             call.item = random.pick(&[0, 1, 12, 13, u32::MAX]);

@@ -1,5 +1,6 @@
 //! The groups of calls. Each takes one part of the C face and tries what could go wrong there.
 
+mod ascii;
 mod blocks;
 mod captures;
 mod damage;
@@ -35,6 +36,7 @@ const GROUPS: &[(&str, Calls)] = &[
     ("order of a byte's refusals", order::byte),
     ("order of an idle call's refusals", order::idle),
     ("order of a frame's refusals", order::frames),
+    ("order of a line's refusals", order::lines),
     ("order of a put's refusals", order::put),
     ("order of a reading's refusals", order::read),
     ("order of a writing's refusals", order::written),
@@ -61,6 +63,21 @@ const GROUPS: &[(&str, Calls)] = &[
     ("several registers into bad tables", several::lent),
     ("several registers at every address", several::addresses),
     ("frames of every kind and length", requests::every),
+    ("every character in every place", ascii::every_character),
+    ("two characters of a line", ascii::two_characters),
+    ("bits of a line flipped", ascii::bits),
+    ("every LRC behind a message", ascii::every_lrc),
+    ("other checks than the LRC", ascii::other_checks),
+    ("every end of a line", ascii::every_end),
+    ("text behind a line", ascii::texts),
+    ("colons inside a line", ascii::inside),
+    ("parts of a line before another", ascii::behind),
+    ("anything before a line", ascii::fronts),
+    ("very much before a line", ascii::long_fronts),
+    ("lines of every number of bytes", ascii::numbers),
+    ("lines of every number of characters", ascii::characters),
+    ("tables and buffers lent to a line", ascii::lent),
+    ("lines at every address", ascii::addresses),
     ("captures of every size", captures::sizes),
     ("small captures of small bytes", captures::small),
     ("every frame of a capture shown", captures::shown),
@@ -101,6 +118,8 @@ const GROUPS: &[(&str, Calls)] = &[
     ("sessions on the RKC line", sessions::whole),
     ("sessions on a bad line", sessions::damaged),
     ("sessions on the Modbus line", modbus_sessions::whole),
+    ("sessions on both Modbus lines", ascii::sessions),
+    ("any line", ascii::any),
     ("sessions played back", captures::sessions),
     ("any capture", captures::any),
     ("sessions asked for last writes", last_write::sessions),

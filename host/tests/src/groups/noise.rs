@@ -1,4 +1,4 @@
-use super::{captures, several};
+use super::{ascii, captures, several};
 use crate::call::{Call, Function};
 use crate::compare::Compare;
 use crate::failure::Checked;
@@ -21,6 +21,7 @@ pub fn anything(compare: &mut Compare, random: &mut Random) -> Checked<()> {
         Function::Playback,
         Function::Show,
         Function::LastWrite,
+        Function::Ascii,
     ];
     for _ in 0..40_000 {
         let entries = 2 + random.below(30);
@@ -44,7 +45,7 @@ pub fn anything(compare: &mut Compare, random: &mut Random) -> Checked<()> {
 }
 
 /// Noise that no caller's fault keeps from being looked at: a good table, room for the reply and
-/// good settings, with any state, bytes, times, frames, captures, items and values.
+/// good settings, with any state, bytes, times, frames, lines, captures, items and values.
 pub fn well_lent(compare: &mut Compare, random: &mut Random) -> Checked<()> {
     let functions = [
         Function::Byte,
@@ -54,6 +55,7 @@ pub fn well_lent(compare: &mut Compare, random: &mut Random) -> Checked<()> {
         Function::Playback,
         Function::Show,
         Function::LastWrite,
+        Function::Ascii,
     ];
     for _ in 0..120_000 {
         let address = random.between(1, 99) as u8;
@@ -75,6 +77,7 @@ pub fn well_lent(compare: &mut Compare, random: &mut Random) -> Checked<()> {
                 Function::Playback | Function::Show | Function::LastWrite => {
                     captures::any_capture(random)
                 }
+                Function::Ascii => ascii::any_line(random, address),
                 _ => frame(random, address),
             },
             ..Call::new(function)

@@ -1,3 +1,4 @@
+use super::ascii;
 use crate::call::{Call, Function};
 use crate::compare::Compare;
 use crate::failure::Checked;
@@ -17,7 +18,8 @@ pub fn handed(
     handed_with(compare, random, table, address, frame)
 }
 
-/// Hands a frame to an instrument with this table.
+/// Hands a frame to an instrument with this table; and where its CRC is right, the same message as a
+/// line.
 pub fn handed_with(
     compare: &mut Compare,
     random: &mut Random,
@@ -26,14 +28,14 @@ pub fn handed_with(
     frame: Vec<u8>,
 ) -> Checked<()> {
     let length = random.pick(&[256, 256, 256, 300]);
-    compare.call(&mut Call {
+    let call = Call {
         address,
         table,
         reply: pattern(random, length),
         input: frame,
         ..Call::new(Function::Rtu)
-    })?;
-    Ok(())
+    };
+    ascii::by_both(compare, call)
 }
 
 /// A frame of address, function and two words, with its CRC.

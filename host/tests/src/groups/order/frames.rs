@@ -49,7 +49,7 @@ fn changed(call: &mut Call, change: impl Fn(&mut Vec<u8>)) {
     }
 }
 
-/// What a request meets behind 23, as much as possible of what comes later being wrong too.
+/// What a message meets behind 23, as much as possible of what comes later being wrong too.
 const REQUESTS: [(&[u8], u32); 31] = [
     (&[0x00], 31),
     (&[0x04, 0, 0, 0, 1], 31),
@@ -124,19 +124,27 @@ const SEVERAL: [(&[u8], u32); 29] = [
 /// Every set of faults up to 23, on whatever else a request can be refused for.
 pub fn faults(compare: &mut Compare, random: &mut Random) -> Checked<()> {
     for _ in 0..10 {
-        for (request, number) in REQUESTS.into_iter().chain(SEVERAL) {
-            let address = random.between(1, 99) as u8;
-            let mut body = vec![address];
-            body.extend(request);
+        for (message, number) in messages(random) {
             let call = Call {
-                address,
+                address: message[0],
                 table: good_table(random),
                 reply: pattern(random, 256),
-                input: with_crc(body),
+                input: with_crc(message),
                 ..Call::new(Function::Rtu)
             };
             every_set(compare, random, &FAULTS, &call, number)?;
         }
     }
     Ok(())
+}
+
+/// Each of the requests for any address, and the number that it meets there.
+pub fn messages(random: &mut Random) -> Vec<(Vec<u8>, u32)> {
+    let requests = REQUESTS.into_iter().chain(SEVERAL);
+    requests
+        .map(|(request, number)| {
+            let address = random.between(1, 99) as u8;
+            ([&[address], request].concat(), number)
+        })
+        .collect()
 }

@@ -7,6 +7,7 @@ mod byte;
 mod captures;
 mod frames;
 mod idle;
+mod lines;
 mod put;
 mod text;
 
@@ -14,6 +15,7 @@ pub use byte::faults as byte;
 pub use captures::{last_write, playback, show};
 pub use frames::faults as frames;
 pub use idle::faults as idle;
+pub use lines::faults as lines;
 pub use put::faults as put;
 pub use text::{read, written};
 
