@@ -1,7 +1,7 @@
 //! Sessions on the Modbus line: the table goes on from frame to frame, and what was written is read
 //! back.
 
-use super::requests::words;
+use super::requests::{heard, words};
 use super::several;
 use crate::call::{Call, Function};
 use crate::compare::Compare;
@@ -31,30 +31,31 @@ pub fn whole(compare: &mut Compare, random: &mut Random) -> Checked<()> {
     Ok(())
 }
 
-struct Panel {
-    address: u8,
-    table: Vec<i32>,
+/// A panel that hears frames and lines.
+pub struct Panel {
+    pub address: u8,
+    pub table: Vec<i32>,
 }
 
 impl Panel {
-    /// Hears a frame, and goes on from the table that it leaves. Number and reply.
-    fn hear(
+    /// Hears a frame or a line, and goes on from the table that it leaves. Number and reply.
+    pub fn hear(
         &mut self,
         compare: &mut Compare,
         random: &mut Random,
-        frame: Vec<u8>,
+        function: Function,
+        input: Vec<u8>,
     ) -> Checked<(u32, Vec<u8>)> {
         let mut call = Call {
             address: self.address,
             table: self.table.clone(),
             reply: pattern(random, 256),
-            input: frame,
-            ..Call::new(Function::Rtu)
+            input,
+            ..Call::new(function)
         };
-        let result = compare.call(&mut call)?;
+        let given = heard(compare, &mut call)?;
         self.table = call.table;
-        call.reply.truncate((result / 256) as usize);
-        Ok((result % 256, call.reply))
+        Ok(given)
     }
 
     /// The firmware puts a value.
@@ -76,14 +77,14 @@ impl Panel {
         let item = random.below(12) + 1;
         let value = any_value(random, item) as u16;
         let frame = words(self.address, 0x06, ITEMS[item - 1].register, value);
-        self.hear(compare, random, frame)?;
+        self.hear(compare, random, Function::Rtu, frame)?;
         Ok(())
     }
 
     /// All registers are read.
     fn read_map(&mut self, compare: &mut Compare, random: &mut Random) -> Checked<()> {
         let frame = words(self.address, 0x03, 0, 19);
-        self.hear(compare, random, frame)?;
+        self.hear(compare, random, Function::Rtu, frame)?;
         Ok(())
     }
 
@@ -92,7 +93,7 @@ impl Panel {
     fn write_several(&mut self, compare: &mut Compare, random: &mut Random) -> Checked<()> {
         let frame = several::any_request(random, self.address);
         let before = self.table.clone();
-        let (number, _) = self.hear(compare, random, frame.clone())?;
+        let (number, _) = self.hear(compare, random, Function::Rtu, frame.clone())?;
         if number != 0 {
             return due(
                 self.table == before,
@@ -102,7 +103,7 @@ impl Panel {
         }
         let mut read = vec![self.address, 0x03];
         read.extend(&frame[2..6]);
-        let (_, reply) = self.hear(compare, random, with_crc(read))?;
+        let (_, reply) = self.hear(compare, random, Function::Rtu, with_crc(read))?;
         let mut written = vec![self.address, 0x03];
         written.extend(&frame[6..frame.len() - 2]);
         let same = reply == with_crc(written);

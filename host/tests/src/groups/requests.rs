@@ -38,6 +38,13 @@ pub fn handed_with(
     ascii::by_both(compare, call)
 }
 
+/// Makes a call of either Modbus line. Number and reply.
+pub fn heard(compare: &mut Compare, call: &mut Call) -> Checked<(u32, Vec<u8>)> {
+    let result = compare.call(call)?;
+    let reply = call.reply[..(result / 256) as usize].to_vec();
+    Ok((result % 256, reply))
+}
+
 /// A frame of address, function and two words, with its CRC.
 pub fn words(address: u8, function: u8, first: u16, second: u16) -> Vec<u8> {
     let mut body = vec![address, function];

@@ -18,7 +18,7 @@ pub use lengths::{characters, numbers};
 pub use lent::{addresses, lent};
 pub use sessions::whole as sessions;
 
-use super::requests::words;
+use super::requests::{heard, words};
 use super::several;
 use crate::call::{Call, Function};
 use crate::compare::Compare;
@@ -72,13 +72,6 @@ fn lines(random: &mut Random) -> Vec<Vec<u8>> {
 fn message_of(frame: &[u8]) -> Option<Vec<u8>> {
     let message = frame[..frame.len().checked_sub(2)?].to_vec();
     (with_crc(message.clone()) == frame).then_some(message)
-}
-
-/// Makes a call of either Modbus line. Number and reply.
-fn heard(compare: &mut Compare, call: &mut Call) -> Checked<(u32, Vec<u8>)> {
-    let result = compare.call(call)?;
-    let reply = call.reply[..(result / 256) as usize].to_vec();
-    Ok((result % 256, reply))
 }
 
 /// What a message gives as a line, told from what its frame gives: 24 in place of 21, and a reply as a

@@ -1,13 +1,14 @@
 //! Sessions in which both Modbus lines reach one table.
 
-use super::{as_line, heard, message_of, no_line};
-use crate::call::{Call, Function};
+use super::{as_line, message_of, no_line};
+use crate::call::Function;
 use crate::compare::Compare;
 use crate::failure::{Checked, Failure};
+use crate::groups::modbus_sessions::Panel;
 use crate::groups::requests::{spoiled, words};
 use crate::groups::several;
 use crate::random::Random;
-use crate::shapes::{any_value, good_table, pattern};
+use crate::shapes::{any_value, good_table};
 use reference::ascii::line_of;
 use reference::items::ITEMS;
 
@@ -45,33 +46,6 @@ fn request(random: &mut Random, address: u8) -> Vec<u8> {
             spoiled(random, frame)
         }
         _ => words(address, 0x06, ITEMS[item - 1].register, value),
-    }
-}
-
-struct Panel {
-    address: u8,
-    table: Vec<i32>,
-}
-
-impl Panel {
-    /// Hears a frame or a line, and goes on from the table that it leaves. Number and reply.
-    fn hear(
-        &mut self,
-        compare: &mut Compare,
-        random: &mut Random,
-        function: Function,
-        input: Vec<u8>,
-    ) -> Checked<(u32, Vec<u8>)> {
-        let mut call = Call {
-            address: self.address,
-            table: self.table.clone(),
-            reply: pattern(random, 256),
-            input,
-            ..Call::new(function)
-        };
-        let given = heard(compare, &mut call)?;
-        self.table = call.table;
-        Ok(given)
     }
 }
 
