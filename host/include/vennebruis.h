@@ -49,10 +49,11 @@
  *   only notes the value, and the main loop puts it between two calls.
  *
  * Stack
- *   No call takes more than 400 bytes of stack on x86-64, its arguments and return address
- *   included; docs/PERFORMANCE.md has what was measured of each function, and how. Some of them lie
- *   below the stack pointer, in the 128 bytes there that x86-64 lets a function use (the red zone):
- *   an interrupt that runs on the same stack must leave those alone.
+ *   A call of vb_ascii, which keeps the bytes of a line there, takes at most 700 bytes of stack on
+ *   x86-64, and no other call more than 400, its arguments and return address included;
+ *   docs/PERFORMANCE.md has what was measured of each function, and how. Some of them lie below the
+ *   stack pointer, in the 128 bytes there that x86-64 lets a function use (the red zone): an
+ *   interrupt that runs on the same stack must leave those alone.
  */
 #ifndef VENNEBRUIS_H
 #define VENNEBRUIS_H

@@ -4,7 +4,7 @@ import kit
 from counting import run
 
 SOURCES = kit.ROOT / "host" / "perf"
-SHARED = [SOURCES / "captures.c", SOURCES / "known.c"]
+SHARED = [SOURCES / "captures.c", SOURCES / "known.c", SOURCES / "lines.c"]
 LINK = [SOURCES / "link.c", *SHARED]
 LIBRARY = kit.ROOT / "target" / "staticlib" / "libpanel.a"
 REFERENCE = kit.TARGET / "libreference.rlib"

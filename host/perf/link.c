@@ -1,12 +1,13 @@
 /* Makes the calls of one case through the C functions of the link, for their instructions to be
- * counted: link CASE, and behind it the capture for the case playback, show or last-write. Whatever
- * has these functions can be linked to it.
+ * counted: link CASE, and behind it ascii for a request that is to go as a line, or the capture for
+ * the case playback, show or last-write. Whatever has these functions can be linked to it.
  *
  * It prints where the counted functions stand, for each call that gave something the number and the
  * reply, the table, the place and length or the last write, how many bytes it handed over, and how
  * many frames and bytes the capture has. */
 #include "captures.h"
 #include "frames.h"
+#include "lines.h"
 #include "vennebruis.h"
 
 /* Of the C library. Declared here, since a cross compiler may come without its headers. */
@@ -59,6 +60,12 @@ static void show(uint32_t result) {
 static void rtu(const struct request *request) {
     handed_over += (unsigned)request->n;
     show(vb_rtu(table, VB_TABLE_ENTRIES, reply, sizeof reply, ADDRESS, request->bytes, request->n));
+}
+
+static void ascii(const struct request *request) {
+    struct line line = line_of(request->bytes, request->n);
+    handed_over += (unsigned)line.n;
+    show(vb_ascii(table, VB_TABLE_ENTRIES, reply, sizeof reply, ADDRESS, line.bytes, line.n));
 }
 
 static void byte(uint8_t received) {
@@ -144,18 +151,20 @@ static void last_write(void) {
 
 int main(int argc, char **argv) {
     const char *name = argc > 1 ? argv[1] : "";
-    printf("at vb_rtu %lx\nat vb_byte %lx\nat ten_rounds_twice %lx\n", (unsigned long)vb_rtu,
-           (unsigned long)vb_byte, (unsigned long)ten_rounds_twice);
+    const char *behind = argc > 2 ? argv[2] : "";
+    printf("at vb_rtu %lx\nat vb_ascii %lx\nat vb_byte %lx\nat ten_rounds_twice %lx\n",
+           (unsigned long)vb_rtu, (unsigned long)vb_ascii, (unsigned long)vb_byte,
+           (unsigned long)ten_rounds_twice);
     printf("at vb_playback %lx\nat vb_show %lx\nat vb_last_write %lx\n", (unsigned long)vb_playback,
            (unsigned long)vb_show, (unsigned long)vb_last_write);
     vb_start_table(table, VB_TABLE_ENTRIES);
     vb_start_link(link_state, sizeof link_state);
     vb_put(table, VB_TABLE_ENTRIES, VB_M1, 1234);
-    make_capture(argc > 2 ? argv[2] : "");
+    make_capture(behind);
 
     const struct request *request = request_of(name);
     if (request != NULL)
-        rtu(request);
+        (strcmp(behind, "ascii") == 0 ? ascii : rtu)(request);
     if (strcmp(name, "known") == 0)
         ten_rounds_twice();
     if (strcmp(name, "poll") == 0)

@@ -28,6 +28,10 @@ ROWS = {
     "loopback": "loopback (08H)",
     "loopback, CRC apart": "the same, both CRCs apart",
     "CRC": "CRC, per byte",
+    "read, ASCII": "read of 19 registers (03H), as a line of ASCII",
+    "write, ASCII": "write of one register (06H), as a line",
+    "write-three, ASCII": "write of three registers (10H), as a line",
+    "loopback, ASCII": "loopback (08H), as a line",
     "poll": "RKC: all items polled, per byte",
     "select": "RKC: all settings written, per byte",
     "session": "RKC: one after the other, per byte",
@@ -57,8 +61,9 @@ LAST_WRITES = {
 # capture for each of them would take four times as much.
 MOST_GROWTH = 2.5
 
-# The requests that libmodbus knows, too.
+# The requests that libmodbus knows, too, and all of them.
 SHARED = ["read", "write", "write-three"]
+REQUESTS = [*SHARED, "loopback"]
 
 
 def replies(printed):
@@ -85,6 +90,16 @@ def modbus(program, functions, cases):
     return figures, gave
 
 
+def lines(program):
+    """The instructions of the same requests as lines of ASCII, and what came back."""
+    figures, gave = {}, {}
+    for case in REQUESTS:
+        row = f"{case}, ASCII"
+        figures[row], printed = count([*program, case, "ascii"], ["vb_ascii"])
+        gave[row] = replies(printed)
+    return figures, gave
+
+
 def rkc(program):
     """The instructions per byte on the RKC line, and what came back."""
     totals, lengths, gave = {}, {}, {}
@@ -107,8 +122,6 @@ def captures(program):
     figures["writes"] /= frames["writes"]
     figures["show"], printed = count([*program, "show", "full"], ["vb_show"])
     gave["show"] = replies(printed)
-    if not all(given[0].startswith("0:") for given in gave.values()):
-        raise SystemExit(f"perf: a capture is refused: {gave}")
     return figures, gave
 
 
@@ -126,15 +139,17 @@ def last_writes(program):
 
 def link(program, file):
     """All figures of an implementation with the C functions of the link."""
-    figures, gave = modbus(program, ["vb_rtu"], [*SHARED, "loopback"])
-    for part in (rkc, captures, last_writes):
+    figures, gave = modbus(program, ["vb_rtu"], REQUESTS)
+    for part in (lines, rkc, captures, last_writes):
         more, gave_more = part(program)
         figures, gave = figures | more, gave | gave_more
+    if not all(given[0].startswith("0:") for given in gave.values()):
+        raise SystemExit(f"perf: a request or a capture is refused: {gave}")
     return figures | sizes.both(file), gave
 
 
 def libmodbus(program):
-    """Those of libmodbus, which knows neither the loopback, the RKC line nor captures."""
+    """Those of libmodbus, which knows neither the loopback, ASCII, the RKC line nor captures."""
     figures, gave = modbus(program, ["libmodbus_check", "modbus_reply"], SHARED)
     return figures | sizes.both(kit.libmodbus()), gave
 

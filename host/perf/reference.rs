@@ -45,22 +45,31 @@ pub unsafe extern "C" fn vb_byte(
     reference::byte(state, table, reply, address, structure, now, byte)
 }
 
-/// # Safety
-/// Each array has the length behind it, and none overlaps another.
-#[no_mangle]
-pub unsafe extern "C" fn vb_rtu(
-    table: *mut i32,
-    table_length: usize,
-    reply: *mut u8,
-    reply_length: usize,
-    address: u8,
-    frame: *const u8,
-    frame_length: usize,
-) -> u32 {
-    let table = from_raw_parts_mut(table, table_length);
-    let reply = from_raw_parts_mut(reply, reply_length);
-    reference::rtu(table, reply, address, from_raw_parts(frame, frame_length))
+/// A function of a Modbus line, whose frames or lines come with the same arguments.
+macro_rules! modbus {
+    ($name:ident, $of:path) => {
+        /// # Safety
+        /// Each array has the length behind it, and none overlaps another.
+        #[no_mangle]
+        pub unsafe extern "C" fn $name(
+            table: *mut i32,
+            table_length: usize,
+            reply: *mut u8,
+            reply_length: usize,
+            address: u8,
+            received: *const u8,
+            received_length: usize,
+        ) -> u32 {
+            let table = from_raw_parts_mut(table, table_length);
+            let reply = from_raw_parts_mut(reply, reply_length);
+            let received = from_raw_parts(received, received_length);
+            $of(table, reply, address, received)
+        }
+    };
 }
+
+modbus!(vb_rtu, reference::rtu);
+modbus!(vb_ascii, reference::ascii);
 
 /// # Safety
 /// Each array has the length behind it, and none overlaps another.

@@ -9,8 +9,10 @@ from counting import run
 # What eighty_bytes takes.
 KNOWN_STACK = 80
 
-# What no call takes more of, as host/include/vennebruis.h says.
+# What no call takes more of, as host/include/vennebruis.h says. One has a bound of its own, since
+# it keeps the bytes of a line.
 MOST_STACK = 400
+MOST_STACK_OF = {"vb_ascii": 700}
 
 
 def sections(file, name):
@@ -40,6 +42,8 @@ def stack(program):
     known = figures.pop("eighty_bytes")
     if known != KNOWN_STACK:
         raise SystemExit(f"perf: {known} bytes of stack measured where {KNOWN_STACK} are taken")
-    if max(figures.values()) > MOST_STACK:
-        raise SystemExit(f"perf: more stack than the header's {MOST_STACK} bytes: {figures}")
+    for name, taken in figures.items():
+        most = MOST_STACK_OF.get(name, MOST_STACK)
+        if taken > most:
+            raise SystemExit(f"perf: {name} takes {taken} bytes of stack, the header says {most}")
     return figures

@@ -5,6 +5,7 @@
  * stack, the return address, and all below it, what stands under the stack pointer included. */
 #include "captures.h"
 #include "frames.h"
+#include "lines.h"
 #include "vennebruis.h"
 
 /* Of the C library. Declared here, since a cross compiler may come without its headers. */
@@ -58,6 +59,7 @@ enum name {
     BYTE,
     IDLE,
     RTU,
+    ASCII,
     PUT,
     READ_TEXT,
     WRITE_TEXT,
@@ -74,6 +76,7 @@ static struct measured measured[NAMES] = {
     [BYTE] = {"vb_byte", (void (*)(void))vb_byte, 10, 0},
     [IDLE] = {"vb_idle", (void (*)(void))vb_idle, 6, 0},
     [RTU] = {"vb_rtu", (void (*)(void))vb_rtu, 7, 0},
+    [ASCII] = {"vb_ascii", (void (*)(void))vb_ascii, 7, 0},
     [PUT] = {"vb_put", (void (*)(void))vb_put, 4, 0},
     [READ_TEXT] = {"vb_read_text", (void (*)(void))vb_read_text, 4, 0},
     [WRITE_TEXT] = {"vb_write_text", (void (*)(void))vb_write_text, 4, 0},
@@ -137,10 +140,23 @@ static void rkc(void) {
     idle(3000);
 }
 
-static void rtu(void) {
-    for (size_t i = 0; i < REQUESTS; i++)
-        call(RTU, (uint64_t[WORDS]){at(table), VB_TABLE_ENTRIES, at(reply), sizeof reply, ADDRESS,
-                                    at(requests[i].bytes), requests[i].n});
+static void modbus(enum name name, uint64_t address, const uint8_t *received, uint64_t n) {
+    call(name, (uint64_t[WORDS]){at(table), VB_TABLE_ENTRIES, at(reply), sizeof reply, address,
+                                 at(received), n});
+}
+
+/* The requests as frames. As lines, in which the damaged ones are whole and the long one is as long
+ * as a line can be; and these for each kind of address, without their LF, and with a wrong LRC. */
+static void requested(void) {
+    for (size_t i = 0; i < REQUESTS; i++) {
+        modbus(RTU, ADDRESS, requests[i].bytes, requests[i].n);
+        struct line line = line_of(requests[i].bytes, requests[i].n);
+        for (uint64_t address = 0; address <= ADDRESS + 1; address++)
+            for (uint64_t n = line.n - 1; n <= line.n; n++)
+                modbus(ASCII, address, line.bytes, n);
+        line.bytes[2] = '9'; /* in the address, for which the LRC is another */
+        modbus(ASCII, ADDRESS, line.bytes, line.n);
+    }
 }
 
 /* Each item at each of three values, of which one may be set. */
@@ -198,7 +214,7 @@ int main(void) {
     call(START_TABLE, (uint64_t[WORDS]){at(table), VB_TABLE_ENTRIES});
     call(START_LINK, (uint64_t[WORDS]){at(link_state), sizeof link_state});
     rkc();
-    rtu();
+    requested();
     put();
     text();
     captured();
