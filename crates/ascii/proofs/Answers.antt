@@ -1,22 +1,21 @@
 -- What a call gives that is handed a line.
 -- Assumes nothing.
-use mathlib.Core.Path.{_≡_, refl, sym, ap, subst, _∙_}
+use mathlib.Core.Path.{_≡_, refl, sym, ap, ap₂, subst⁻¹, _∙_}
 use mathlib.Core.List.{List}
 use Prim.Native.Nat.{ℕ, _-_, _≤_}
 use native.Mathlib.Omega.{arith}
 use lib.IntN.{ℤ}
 use lib.ListN.{length, take}
-use Rattle.numbers.specs.Numbers.{none, leastBuffer}
+use Rattle.numbers.specs.Numbers.{none}
 use Rattle.modbus.specs.declared.Answered.{Answered}
-use Rattle.modbus.specs.Rules.{acted}
 use Rattle.modbus.specs.Promise.{Gives}
 use Rattle.modbus.proofs.Acting.{gives-by}
-use Rattle.call.specs.Call.{Call, refusal, sending, answeredAs}
-use Rattle.call.proofs.Faults.{not-refused, is-fine}
-use Rattle.call.proofs.Answered.{gives-refused, gives-ruled}
-use Rattle.ascii.specs.Line.{fewest, lineOf, bytesIn, bodyOf, lineFault, actedOn}
+use Rattle.call.specs.Call.{Call, refusal, answeredAs}
+use Rattle.call.proofs.Faults.{not-refused}
+use Rattle.call.proofs.Answered.{gives-refused}
+use Rattle.ascii.specs.Line.{fewest, most, lineOf, bytesIn, bodyOf, lineFault, actedOn}
 use Rattle.ascii.specs.Promise.{bytesTaken, bytesFault, Takes}
-use Rattle.ascii.proofs.Faults.{taken-fault, form-right, some-bytes, all-taken, body-taken}
+use Rattle.ascii.proofs.Faults.{taken-fault, form-right, right-number, all-taken, body-taken}
 
 module _ (call : Call) (line : List ℕ) where
   -- the outcome of a line is that of a call
@@ -24,38 +23,41 @@ module _ (call : Call) (line : List ℕ) where
   unfolding actedOn
   as-call = refl
 
-  -- what the steps gave: the bytes of the line were taken, their fault was looked for, and the caller's goes before it
-  pub record Looked (after : List ℕ) (n fault number : ℕ) : Type 0 where
+  -- what was taken of the line, and the fault that it has
+  pub record Looked (after : List ℕ) (n fault : ℕ) : Type 0 where
     pub taken : Takes (bytesTaken line) after n
     pub faulty : fault ≡ bytesFault (take n after)
-    pub numbered : number ≡ refusal call fault
 
-  module _ {after : List ℕ} {n fault number : ℕ} (l : Looked after n fault number) where
-    first : number ≡ refusal call (lineFault line)
-    first = l .numbered ∙ ap (refusal call) (l .faulty ∙ ap bytesFault (l .taken .stand) ∙ taken-fault line)
+  module _ {after : List ℕ} {n fault : ℕ} (l : Looked after n fault) where
+    line-fault : fault ≡ lineFault line
+    line-fault = l .faulty ∙ ap bytesFault (l .taken .stand) ∙ taken-fault line
 
     -- a line that is refused
-    pub line-refused : (number ≡ none → ⊥)
-        → Gives (actedOn call line) (record { number = number; len = 0 }) (call .buffer) (call .buffer) (call .table)
-    line-refused h = gives-by (sym as-call) (gives-refused lineOf call (lineFault line) (bodyOf (bytesIn line)) first h)
+    pub line-refused : {r : Answered} → (fault ≡ none → ⊥) → r ≡ record { number = refusal call fault; len = 0 }
+        → Gives (actedOn call line) r (call .buffer) (call .buffer) (call .table)
+    line-refused {r} h e =
+        let number = refusal call fault in
+        let met : number ≡ none → ⊥ = λ z. h (not-refused call fault z .1) in
+        let refused = gives-refused lineOf call (lineFault line) (bodyOf (bytesIn line)) (ap (refusal call) line-fault) met in
+        subst⁻¹ (λ (a : Answered). Gives (actedOn call line) a (call .buffer) (call .buffer) (call .table)) e
+        (gives-by (sym as-call) refused)
 
-    -- one that is not has bytes, and the reply has room
-    module _ (z : number ≡ none) where
+    -- one that is not has bytes
+    module _ (z : fault ≡ none) where
       no-fault : lineFault line ≡ none
-      no-fault = not-refused call (lineFault line) (sym first ∙ z) .1
+      no-fault = sym line-fault ∙ z
 
-      pub has-bytes : fewest ≤ n
-      has-bytes = omega (arith, some-bytes line (form-right line no-fault), l .taken .handed, ap length (all-taken line no-fault))
-
-      pub has-room : leastBuffer ≤ length (call .buffer)
-      has-room = is-fine call (not-refused call (lineFault line) (sym first ∙ z) .0) .room
+      pub has-bytes : (fewest ≤ n) × (n ≤ most)
+      has-bytes =
+          let long = l .taken .handed ∙ ap length (all-taken line no-fault) in
+          let number = right-number line (form-right line no-fault) in
+          let low = number .0 in
+          let high = number .1 in
+          (omega arith, omega arith)
 
       -- and is answered by its body
       pub line-answered : {r : Answered} {buffer : List ℕ} {left : List ℤ}
-          → Gives (sending lineOf (acted (call .table) (call .address) (take (n - 1) after))) r (call .buffer) buffer left
+          → Gives (answeredAs lineOf call none (take (n - 1) after)) r (call .buffer) buffer left
           → Gives (actedOn call line) r (call .buffer) buffer left
-      line-answered {r} {buffer} {left} g =
-          let ruled = gives-by
-          (ap (λ (body : List ℕ). sending lineOf (acted (call .table) (call .address) body)) (body-taken line no-fault (l .taken)))
-          g in
-          gives-by (sym as-call) (gives-ruled lineOf call (lineFault line) (bodyOf (bytesIn line)) first z ruled)
+      line-answered =
+          gives-by (sym (as-call ∙ ap₂ (answeredAs lineOf call) no-fault (sym (body-taken line no-fault (l .taken)))))

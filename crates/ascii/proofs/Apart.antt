@@ -23,7 +23,7 @@ use Rattle.ascii.specs.Claims.{Body}
 use Rattle.ascii.proofs.Hexadecimal.{hex-range, hex-at, all-hex, bytes-back, hex-again}
 use Rattle.ascii.proofs.Colon.{dropped-short, colon-there, dropped-first, none-dropped}
 use Rattle.ascii.proofs.Taken.{are-made, long-enough}
-use Rattle.ascii.proofs.Faults.{form-right, some-bytes}
+use Rattle.ascii.proofs.Faults.{form-right, right-number}
 use Rattle.ascii.proofs.Written.{digits-length}
 
 -- CR and LF, which stand at the end
@@ -161,4 +161,4 @@ line-again line e =
     ∙ ap (λ (xs : List ℕ). colon ∷ xs) (end-again rest (front .1))
     ∙ ap (λ (xs : List ℕ). colon ∷ xs ++ ends)
     (sym (hex-again characters (made .hex) (made .even))
-    ∙ ap hexOf (bytes-again bytes (omega (arith, some-bytes line form)) lrc))
+    ∙ ap hexOf (bytes-again bytes (omega (arith, right-number line form .0)) lrc))

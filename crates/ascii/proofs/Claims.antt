@@ -32,6 +32,7 @@ use Rattle.ascii.specs.Line.{rightForm, bytesIn, bodyOf, rightLrc, lineF
 use Rattle.ascii.specs.Claims.{Body, SameOutcome, OfLines}
 use Rattle.ascii.proofs.Colon.{dropped-front, behind-front}
 use Rattle.ascii.proofs.Written.{line-length}
+use Rattle.ascii.proofs.Frames.{message, by-frame}
 use Rattle.ascii.proofs.Answers.{as-call}
 use Rattle.ascii.proofs.Apart.{line-body, line-no-fault, line-again}
 
@@ -75,36 +76,20 @@ module _ (before line : List ℕ) (h : 1 ≤ dropped line) where
 -- ---- both modes
 
 module _ (call : Call) (body : List ℕ) (b : Body body) where
-  -- what comes of the message, whatever carries it
-  abbrev message : Outcome
-  message = unlessMet (refusal call none) (silent (call .table)) (acted (call .table) (call .address) body)
-
-  by-line : actedOn call (lineOf body) ≡ sending lineOf message
+  by-line : actedOn call (lineOf body) ≡ sending lineOf (message call body)
   by-line =
       as-call call (lineOf body)
       ∙ ap₂ (answeredAs lineOf call) (line-no-fault body b) (line-body body b)
       ∙ as-sent lineOf call none body
 
-  frame-body : crc.bodyOf (framed body) ≡ body
-  unfolding framed
-  frame-body = take-at body (lowFirst (crc16Of body)) (length (framed body) - 2) (omega (arith, length-framed body))
-
-  by-frame : rtu.actedOn call (framed body) ≡ sending framed message
-  by-frame =
-      let long = length-framed body in
-      let least = b .least in
-      let most = b .notMore in
-      frames.as-call call (framed body)
-      ∙ ap₂ (answeredAs framed call) (frame-crc (framed body) (omega arith) (omega arith) (sym (framed-right body))) frame-body
-      ∙ as-sent framed call none body
-
   same-outcome : SameOutcome (rtu.actedOn call (framed body)) (actedOn call (lineOf body))
   same-outcome =
+      let frame = by-frame call body (b .least) (b .notMore) in
       record {
-        number = ap (λ (o : Outcome). o .number) by-line ∙ sym (ap (λ (o : Outcome). o .number) by-frame);
-        table = ap (λ (o : Outcome). o .table) by-line ∙ sym (ap (λ (o : Outcome). o .table) by-frame);
+        number = ap (λ (o : Outcome). o .number) by-line ∙ sym (ap (λ (o : Outcome). o .number) frame);
+        table = ap (λ (o : Outcome). o .table) by-line ∙ sym (ap (λ (o : Outcome). o .table) frame);
         reply =
-            (message .reply, ap (λ (o : Outcome). o .reply) by-frame, ap (λ (o : Outcome). o .reply) by-line);
+            (message call body .reply, ap (λ (o : Outcome). o .reply) frame, ap (λ (o : Outcome). o .reply) by-line);
       }
 
 -- ---- all that is claimed

@@ -12,7 +12,7 @@ use Rattle.numbers.specs.Numbers.{none, unless, firstMet}
 use Rattle.numbers.proofs.Tests.{both}
 use Rattle.numbers.proofs.Order.{last-met, passed}
 use Rattle.ascii.specs.Hexadecimal.{bytesOf}
-use Rattle.ascii.specs.Line.{wrongLine, wrongLrc, dropped, behindColon, endsInCrLf, beforeCrLf, fewest, makeBytes}
+use Rattle.ascii.specs.Line.{wrongLine, wrongLrc, dropped, behindColon, endsInCrLf, beforeCrLf, fewest, most, makeBytes}
 use Rattle.ascii.specs.Line.{rightForm, bytesIn, bodyOf, rightLrc, lineFault}
 use Rattle.ascii.specs.Promise.{bytesMade, bytesBehind, bytesTaken, bytesFault, Takes}
 use Rattle.ascii.proofs.Hexadecimal.{bytes-length}
@@ -32,18 +32,19 @@ module _ (line : List ℕ) where
       let rest = behindColon line in
       in-turn (leb 1 (dropped line)) (endsInCrLf rest) (makeBytes (beforeCrLf rest)) (bytesOf (beforeCrLf rest))
 
-  -- a line of the right form has bytes
-  pub some-bytes : rightForm line ≡ true → fewest ≤ length (bytesIn line)
+  -- a line of the right form has 3 to 255 bytes
+  pub right-number : rightForm line ≡ true → (fewest ≤ length (bytesIn line)) × (length (bytesIn line) ≤ most)
   unfolding rightForm bytesIn
-  some-bytes e =
+  right-number e =
       let rest = behindColon line in
-      let made = both (leb 1 (dropped line) && endsInCrLf rest) (makeBytes (beforeCrLf rest)) e .1 in
-      omega (arith, are-made (beforeCrLf rest) made .least, bytes-length (beforeCrLf rest))
+      let made = are-made (beforeCrLf rest) (both (leb 1 (dropped line) && endsInCrLf rest) (makeBytes (beforeCrLf rest)) e .1) in
+      let long = bytes-length (beforeCrLf rest) in
+      (omega (arith, made .least), omega (arith, made .notMore))
 
   -- the fault of the bytes that are taken is the fault of the line
   pub taken-fault : bytesFault (bytesTaken line) ≡ lineFault line
   unfolding bytesFault lineFault
-  taken-fault = ap bytesFault by-form ∙ by (rightForm line) (bytesIn line) some-bytes
+  taken-fault = ap bytesFault by-form ∙ by (rightForm line) (bytesIn line) (λ e. right-number e .0)
     where
       by : (form : Bool) (bytes : List ℕ) → (form ≡ true → fewest ≤ length bytes)
           → bytesFault (cond form bytes []) ≡ firstMet (unless form wrongLine ∷ unless (rightLrc bytes) wrongLrc ∷ [])

@@ -3,6 +3,7 @@ pub mod Stores
 pub mod Colon
 pub mod Taken
 pub mod Written
+pub mod Frames
 pub mod Faults
 pub mod Answers
 pub mod Apart

@@ -2,21 +2,24 @@
 -- Assumes nothing.
 use mathlib.Core.Path.{_≡_, refl, sym, ap, ap₂, _∙_}
 use mathlib.Core.List.{List, [], _∷_, _++_}
-use Prim.Native.Nat.{ℕ, suc, _+_, _*_, _≤_, _<_}
+use Prim.Native.Nat.{ℕ, suc, _+_, _-_, _*_, _≤_}
 use native.Mathlib.Omega.{arith}
 use lib.IntN.{ℤ}
-use lib.ListN.{length, take, set, length-append}
-use lib.Seq.{sets, length-sets, length-take-le}
+use lib.ListN.{length, take, drop, set, length-append}
+use lib.Seq.{sets, length-take-le, take-append-le}
+use Rattle.crc.specs.Crc.{framed}
+use Rattle.crc.proofs.Framed.{length-framed, take-framed}
+use Rattle.crc.proofs.Sealed.{front}
 use Rattle.modbus.specs.declared.Answered.{Answered}
 use Rattle.modbus.specs.Outcome.{Outcome}
 use Rattle.modbus.specs.Promise.{Gives}
-use Rattle.call.specs.Call.{sending}
-use Rattle.call.proofs.Answered.{gives-formed}
+use Rattle.call.specs.Call.{sentAs, sending}
+use Rattle.call.proofs.Answered.{sent-some, gives-formed}
 use Rattle.ascii.specs.Hexadecimal.{hexOf}
 use Rattle.ascii.specs.Line.{colon, CR, LF, lrcOf, lineOf}
 use Rattle.ascii.specs.Promise.{Writes}
 use Rattle.ascii.proofs.Hexadecimal.{hex-length, hex-append}
-use Rattle.ascii.proofs.Stores.{set-sets, sets-append, front-read, sets-over}
+use Rattle.ascii.proofs.Stores.{set-sets, sets-append, sets-over}
 
 -- the characters of a body with its LRC, and the length of a line
 pub digits-length : (body : List ℕ) (lrc : ℕ) → length (hexOf (body ++ (lrc ∷ []))) ≡ 2 * length body + 2
@@ -63,15 +66,54 @@ module _ (buffer : List ℕ) (n : ℕ) (room : 2 * n + 5 ≤ length buffer) wher
   writes lrc e s c =
       record { handed = omega (arith, long, line-length (take n buffer)); sent = stored lrc e s c }
 
--- ---- a reply that becomes a line
+-- ---- the reply of a frame that becomes a line
 
-pub gives-written : {o : Outcome} {a : Answered} {before mid after : List ℕ} {left : List ℤ} {len : ℕ} → Gives o a before mid left
-    → 2 * length (o .reply) + 5 ≤ length before → (a .len ≡ 0 → ⊥) → Writes mid (a .len) after len
-    → Gives (sending lineOf o) (record { number = a .number; len = len }) before after left
-gives-written {o} {a} {before} {mid} g room some w =
-    let reply = o .reply in
-    let body : take (a .len) mid ≡ reply =
-    ap₂ take (g .sends .len) (g .sends .sent) ∙ front-read before reply (omega arith) in
-    gives-formed lineOf g some (w .handed ∙ ap (λ (b : List ℕ). length (lineOf b)) body)
-    (w .sent ∙ ap₂ (λ (b c : List ℕ). sets b 0 (lineOf c)) (g .sends .sent) body
-    ∙ sets-over before reply (omega arith) (lineOf reply) (omega (arith, line-length reply)) (omega (arith, line-length reply)))
+-- a reply without bytes, in the form of either line
+both-silent : (reply : List ℕ) → length (sentAs framed reply) ≡ 0 → sentAs lineOf reply ≡ sentAs framed reply
+both-silent [] e = refl
+both-silent (b ∷ reply) e = absurd (omega (arith, length-framed (b ∷ reply)))
+
+some-bytes : (reply : List ℕ) → (length (sentAs framed reply) ≡ 0 → ⊥) → length reply ≡ 0 → ⊥
+some-bytes [] h e = h refl
+some-bytes (b ∷ reply) h e = omega arith
+
+module _ (o : Outcome) {a : Answered} {before mid : List ℕ} {left : List ℤ} (g : Gives (sending framed o) a before mid left) where
+  -- nothing was replied
+  pub gives-none : a .len ≡ 0 → Gives (sending lineOf o) a before mid left
+  gives-none e =
+      let same = both-silent (o .reply) (sym (g .sends .len) ∙ e) in
+      record {
+        sends = record {
+          given = g .sends .given;
+          len = g .sends .len ∙ ap length (sym same);
+          sent = g .sends .sent ∙ ap (sets before 0) (sym same);
+        };
+        table = g .table;
+      }
+
+  -- something was
+  module _ (some : a .len ≡ 0 → ⊥) where
+    pub replied : length (o .reply) ≡ 0 → ⊥
+    replied = some-bytes (o .reply) (λ z. some (g .sends .len ∙ z))
+
+    sealed : sentAs framed (o .reply) ≡ framed (o .reply)
+    sealed = sent-some framed (o .reply) replied
+
+    pub body-long : a .len ≡ length (o .reply) + 2
+    body-long = g .sends .len ∙ ap length sealed ∙ length-framed (o .reply)
+
+    pub gives-written : {after : List ℕ} {len : ℕ} → 2 * length (o .reply) + 5 ≤ length before → Writes mid (a .len - 2) after len
+        → Gives (sending lineOf o) (record { number = a .number; len = len }) before after left
+    gives-written {after} {len} room w =
+        let reply = o .reply in
+        let n : a .len - 2 ≡ length reply = omega (arith, body-long) in
+        let stored : mid ≡ sets before 0 (framed reply) = g .sends .sent ∙ ap (sets before 0) sealed in
+        let long = length-framed reply in
+        let line = line-length reply in
+        let body : take (a .len - 2) mid ≡ reply =
+        ap₂ take n stored ∙ ap (take (length reply)) (front before (framed reply) (omega arith))
+        ∙ take-append-le (length reply) (framed reply) (drop (length (framed reply)) before) (omega arith)
+        ∙ take-framed reply in
+        gives-formed lineOf o (g .sends .given) (g .table) replied (w .handed ∙ ap (λ (b : List ℕ). length (lineOf b)) body)
+        (w .sent ∙ ap₂ (λ (b c : List ℕ). sets b 0 (lineOf c)) stored body
+        ∙ sets-over before (framed reply) (omega arith) (lineOf reply) (omega arith) (omega arith))

@@ -5,10 +5,9 @@ ghost use mathlib.Core.List.{[], _∷_};
 ghost use Prim.Native.Nat.{_+_, _*_, _≤_, _<_};
 ghost use lib.ListN.{length, take};
 ghost use lib.Seq.{sets};
-ghost use Rattle.numbers.specs.Numbers.{none, leastBuffer};
-ghost use Rattle.modbus.specs.Rules.{acted};
+ghost use Rattle.numbers.specs.Numbers.{none};
 ghost use Rattle.modbus.specs.Promise.{Gives};
-ghost use Rattle.call.specs.Call.{sending};
+ghost use Rattle.call.specs.Call.{refusal, answeredAs};
 ghost use Rattle.ascii.specs.Hexadecimal.{digitOf, hexOf, isHex, allHex, halfOf, bytesOf};
 ghost use Rattle.ascii.specs.Line.{lrcOf, lineOf, dropped, endsInCrLf, most, makeBytes, actedOn};
 ghost use Rattle.ascii.specs.Promise.{bytesMade, bytesBehind, bytesTaken, bytesFault, Takes, Writes};
@@ -40,6 +39,11 @@ const LAST_LETTER: u8 = 0x46;
 const FEWEST: usize = 3;
 
 const MOST: usize = 255;
+
+// The bytes that the same message has in RTU, at most, and those of its CRC.
+const LONGEST_FRAME: usize = 256;
+
+const CRC_BYTES: usize = 2;
 
 // ---- hexadecimal
 
@@ -247,17 +251,35 @@ fn write_line(buffer: &mut [u8], n: usize) -> usize
 
 // ---- any line
 
-// The message rules act on a body, and a reply becomes a line.
-fn answer(table: &mut [i32], reply: &mut [u8], address: u8, body: &[u8]) -> Answered
-    requires { ⌜ leastBuffer ≤ length (now reply) ⌝ }
-    ensures { λ r. ⌜ Gives (sending lineOf (acted (now (table .entry)) address (now (body .entry))))
-        r (now (reply .entry)) (now (reply .exit)) (now (table .exit)) ⌝ }
+// A line with a fault is refused, by the caller's fault where there is one.
+fn refuse(table: &[i32], reply: &[u8], address: u8, fault: u8) -> Answered
+    ensures { λ r. ⌜ r ≡ record {
+      number = refusal (record { table = now (table .entry); buffer = now (reply .entry); address = address }) fault;
+      len = 0;
+    } ⌝ }
 {
-    let answered = modbus::respond(table, reply, address, body);
+    let first = call::fault(table, reply, address);
+    let number = if first != NONE { first } else { fault };
+    Answered { number, len: 0 }
+}
+
+// The message that is the first n of these bytes goes on as the frame that it would be in RTU, and the body of the reply becomes a
+// line. So the rules for a message have one caller, into which the compiler copies them; called from two places, they would cost
+// every RTU frame some forty instructions more.
+fn answer(table: &mut [i32], reply: &mut [u8], address: u8, bytes: &mut [u8], n: usize) -> Answered
+    requires { ⌜ (2 ≤ n) × (n ≤ 254) × (n + 2 ≤ length (now bytes)) ⌝ }
+    ensures { λ r. ⌜ Gives (answeredAs lineOf (record {
+      table = now (table .entry);
+      buffer = now (reply .entry);
+      address = address;
+    }) none (take n (now (bytes .entry)))) r (now (reply .entry)) (now (reply .exit)) (now (table .exit)) ⌝ }
+{
+    let end = crc::seal(bytes, n);
+    let answered = rtu::frame(table, reply, address, &bytes[..end]);
     if answered.len == 0 {
         return answered;
     }
-    let len = write_line(reply, answered.len);
+    let len = write_line(reply, answered.len - CRC_BYTES);
     Answered {
         number: answered.number,
         len,
@@ -272,11 +294,11 @@ pub fn line(table: &mut [i32], reply: &mut [u8], address: u8, line: &[u8]) -> An
       address = address;
     }) (now (line .entry))) r (now (reply .entry)) (now (reply .exit)) (now (table .exit)) ⌝ }
 {
-    let mut bytes = [0u8; MOST];
+    let mut bytes = [0u8; LONGEST_FRAME];
     let n = take_apart(&mut bytes, line);
-    let number = call::refusal(&table[..], &reply[..], address, bytes_fault(&bytes[..n]));
-    if number != NONE {
-        return Answered { number, len: 0 };
+    let fault = bytes_fault(&bytes[..n]);
+    if fault != NONE {
+        return refuse(&table[..], &reply[..], address, fault);
     }
-    answer(table, reply, address, &bytes[..n - 1])
+    answer(table, reply, address, &mut bytes, n - 1)
 }

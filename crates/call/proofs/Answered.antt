@@ -27,7 +27,7 @@ module _ (form : List ℕ → List ℕ) (call : Call) (fault : ℕ) (body : List
   abbrev pub ruled : Outcome
   ruled = sending form (acted (call .table) (call .address) body)
 
-  pub is-silent : (refusal call fault ≡ none → ⊥) → answeredAs form call fault body ≡ silent (call .table) (refusal call fault)
+  is-silent : (refusal call fault ≡ none → ⊥) → answeredAs form call fault body ≡ silent (call .table) (refusal call fault)
   unfolding answeredAs
   is-silent = is-refused (refusal call fault) (silent (call .table)) ruled
 
@@ -68,7 +68,7 @@ module _ (form : List ℕ → List ℕ) (call : Call) (fault : ℕ) (body : List
 
 module _ (form : List ℕ → List ℕ) where
   -- a reply that has bytes
-  sent-some : (reply : List ℕ) → (length reply ≡ 0 → ⊥) → sentAs form reply ≡ form reply
+  pub sent-some : (reply : List ℕ) → (length reply ≡ 0 → ⊥) → sentAs form reply ≡ form reply
   sent-some [] h = absurd (h refl)
   sent-some (b ∷ reply) h = refl
 
@@ -102,20 +102,16 @@ module _ (form : List ℕ → List ℕ) where
           table = g .table;
         }
 
-    -- a message whose reply was brought into the form of the line
-    pub gives-formed : {after : List ℕ} {len : ℕ} → (a .len ≡ 0 → ⊥) → len ≡ length (form (o .reply))
-        → after ≡ sets before 0 (form (o .reply))
-        → Gives (sending form o) (record { number = a .number; len = len }) before after left
-    gives-formed some long stored =
-        let formed = sent-some (o .reply) (λ z. some (g .sends .len ∙ z)) in
-        record {
-          sends = record {
-            given = g .sends .given;
-            len = long ∙ ap length (sym formed);
-            sent = stored ∙ ap (sets before 0) (sym formed);
-          };
-          table = g .table;
-        }
+  -- a message whose reply was brought into the form of the line
+  pub gives-formed : (o : Outcome) {number len : ℕ} {before after : List ℕ} {left : List ℤ} → number ≡ o .number → left ≡ o .table
+      → (length (o .reply) ≡ 0 → ⊥) → len ≡ length (form (o .reply)) → after ≡ sets before 0 (form (o .reply))
+      → Gives (sending form o) (record { number = number; len = len }) before after left
+  gives-formed o {before = before} given table some long stored =
+      let formed = sent-some (o .reply) some in
+      record {
+        sends = record { given = given; len = long ∙ ap length (sym formed); sent = stored ∙ ap (sets before 0) (sym formed) };
+        table = table;
+      }
 
 -- ---- what a call gives
 

@@ -8,5 +8,5 @@ use Rattle.call.proofs as call
 pub is-address : OneOutcome call.is_address.ended call.is_address.Reads.Asked call.is_address.Reads.Post
 is-address = record { asksNothing = λ κs a. tt; single = λ κs a o u p q. single p q & refl }
 
-pub refusal : OneOutcome call.refusal.ended call.refusal.Reads.Asked call.refusal.Reads.Post
-refusal = record { asksNothing = λ κs a. tt; single = λ κs a o u p q. single p q & refl }
+pub fault : OneOutcome call.fault.ended call.fault.Reads.Asked call.fault.Reads.Post
+fault = record { asksNothing = λ κs a. tt; single = λ κs a o u p q. single p q & refl }

@@ -1,7 +1,6 @@
-// A call of either Modbus line: what the caller hands in beside a frame or a line, and its faults, which go before those of what the
-// line brought.
+// A call of either Modbus line: what the caller hands in beside a frame or a line, and its fault.
 ghost use mathlib.Core.Path.{_≡_};
-ghost use Rattle.call.specs.Call.{isAddress, callFault, refusal};
+ghost use Rattle.call.specs.Call.{isAddress, callFault};
 use numbers::BAD_SETTING;
 use numbers::LAST_ADDRESS;
 use numbers::LEAST_BUFFER;
@@ -19,7 +18,7 @@ pub fn is_address(address: u8) -> bool
 }
 
 // The caller's fault, 0 for none.
-fn call_fault(table: &[i32], reply: &[u8], address: u8) -> u8
+pub fn fault(table: &[i32], reply: &[u8], address: u8) -> u8
     ensures { λ r. ⌜ r
         ≡ callFault (record { table = now (table .entry); buffer = now (reply .entry); address = address }) ⌝ }
 {
@@ -35,16 +34,4 @@ fn call_fault(table: &[i32], reply: &[u8], address: u8) -> u8
     } else {
         BAD_SETTING
     }
-}
-
-// The caller's fault, or else that of what the line brought, 0 for none.
-pub fn refusal(table: &[i32], reply: &[u8], address: u8, fault: u8) -> u8
-    ensures { λ r. ⌜ r
-        ≡ refusal (record { table = now (table .entry); buffer = now (reply .entry); address = address }) fault ⌝ }
-{
-    let first = call_fault(table, reply, address);
-    if first != NONE {
-        return first;
-    }
-    fault
 }

@@ -8,8 +8,8 @@ use native.Mathlib.Omega.{arith}
 use borrow.Author.Tests.{le-leb, leb-true, eqb-true, eq-eqb}
 use lib.Bits.{bitXor, xor-lt, xor-self}
 use lib.Dec.{eqb, leb, lit<}
-use lib.ListN.{length, getD, drop, length-append, take-append-drop}
-use lib.Seq.{drop-cons, drop-length, take-at, getD-at, getD-append-add}
+use lib.ListN.{length, getD, take, drop, length-append, take-append-drop}
+use lib.Seq.{drop-cons, drop-length, take-at, getD-at, getD-append-add, take-append-seam}
 use Rattle.numbers.proofs.Tests.{both}
 use Rattle.crc.specs.Crc.{Bytes, start, shifts, crcFrom, crc16Of, lowFirst, framed, bodyOf, crcIn, isRight}
 use Rattle.crc.proofs.Bytes.{low-first-bytes, rest-bytes, take-bytes}
@@ -31,6 +31,11 @@ crc-small bytes h = from-small start bytes (lit< tt) h
 pub length-framed : (body : List ℕ) → length (framed body) ≡ length body + 2
 unfolding framed
 length-framed body = length-append body (lowFirst (crc16Of body))
+
+-- its body stands at its front
+pub take-framed : (body : List ℕ) → take (length body) (framed body) ≡ body
+unfolding framed
+take-framed body = take-append-seam body (lowFirst (crc16Of body))
 
 -- the frame of a body is right
 pub framed-right : (body : List ℕ) → isRight (framed body) ≡ true

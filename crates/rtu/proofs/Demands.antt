@@ -1,7 +1,7 @@
 -- Document 01's demands on the RTU line. Demand 1, claimed in `call`: what a call leaves alone. Demand 3, claimed in
 -- specs/Demands.antt: line damage of the kinds named is never acted on.
 -- Assumes nothing.
-use mathlib.Core.Path.{_≡_, sym, ap, subst, _∙_}
+use mathlib.Core.Path.{_≡_, sym, ap, _∙_}
 use mathlib.Core.Bool.{true, false}
 use mathlib.Core.List.{List}
 use Prim.Native.Nat.{ℕ}
@@ -70,17 +70,12 @@ module _ (call : Call) (frame : List ℕ) where
         damage = λ f m e s arrived. untouched o wrongCrc (ap (actedOn call) arrived ∙ demand-3 .refused call f m e s);
       }
 
-  module _ {number fault : ℕ} (looked : fault ≡ frameFault frame) (e : number ≡ refusal call fault) where
-    first : number ≡ refusal call (frameFault frame)
-    first = e ∙ ap (refusal call) looked
+  -- that of a frame which is refused, and of one which is answered
+  pub acts-refused : {number : ℕ} → number ≡ refusal call (frameFault frame) → (number ≡ none → ⊥)
+      → Acts call frame (record { number = number; len = 0 }) (call .buffer) (call .table)
+  acts-refused e h = acts (gives-refused framed call (frameFault frame) (bodyOf frame) e h)
 
-    -- that of a frame which is refused, and of one which is answered
-    pub acts-refused : (number ≡ none → ⊥) → Acts call frame (record { number = number; len = 0 }) (call .buffer) (call .table)
-    acts-refused h = acts (gives-refused framed call (frameFault frame) (bodyOf frame) first h)
-
-    pub acts-answered : {r : Answered} {after : List ℕ} {left : List ℤ} → number ≡ none
-        → Gives (ruled framed call (frameFault frame) (bodyOf frame)) r (call .buffer) after left → Acts call frame r after left
-    acts-answered z g = acts (gives-ruled framed call (frameFault frame) (bodyOf frame) first z g)
-
-    pub none-met : number ≡ none → refusal call (frameFault frame) ≡ none
-    none-met z = sym first ∙ z
+  pub acts-answered : {number : ℕ} {r : Answered} {after : List ℕ} {left : List ℤ} → number ≡ refusal call (frameFault frame)
+      → number ≡ none → Gives (ruled framed call (frameFault frame) (bodyOf frame)) r (call .buffer) after left
+      → Acts call frame r after left
+  acts-answered e z g = acts (gives-ruled framed call (frameFault frame) (bodyOf frame) e z g)

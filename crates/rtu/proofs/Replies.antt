@@ -49,7 +49,7 @@ pub gives-sealed : {o : Outcome} {a : Answered} {before mid after : List ℕ} {l
 gives-sealed {o} {before = before} g room some s =
     let long = g .sends .len in
     let stored = g .sends .sent in
-    gives-formed framed g some
+    gives-formed framed o (g .sends .given) (g .table) (λ z. some (long ∙ z))
     (s .handed ∙ ap₂ sealedLength stored long
     ∙ sym (with-room (sets before 0 (o .reply)) (length (o .reply)) (omega (arith, length-sets before 0 (o .reply))) .handed)
     ∙ sym (length-framed (o .reply)))

@@ -35,6 +35,19 @@ pub fn frame_fault(frame: &[u8]) -> u8
     }
 }
 
+// The caller's fault, or else the frame's, 0 for none.
+fn refusal(table: &[i32], reply: &[u8], address: u8, frame: &[u8]) -> u8
+    ensures { λ r. ⌜ r
+        ≡ refusal (record { table = now (table .entry); buffer = now (reply .entry); address = address })
+        (frameFault (now (frame .entry))) ⌝ }
+{
+    let fault = call::fault(table, reply, address);
+    if fault != NONE {
+        return fault;
+    }
+    frame_fault(frame)
+}
+
 // The message rules act on the body of a frame that is not refused, and a reply gets its CRC.
 fn answer(table: &mut [i32], reply: &mut [u8], address: u8, frame: &[u8]) -> Answered
     requires { ⌜ refusal (record { table = now table; buffer = now reply; address = address }) (frameFault (now frame))
@@ -59,7 +72,7 @@ pub fn frame(table: &mut [i32], reply: &mut [u8], address: u8, frame: &[u8]) -> 
     ensures { λ r. ⌜ Acts (record { table = now (table .entry); buffer = now (reply .entry); address = address })
         (now (frame .entry)) r (now (reply .exit)) (now (table .exit)) ⌝ }
 {
-    let number = call::refusal(&table[..], &reply[..], address, frame_fault(frame));
+    let number = refusal(&table[..], &reply[..], address, frame);
     if number != NONE {
         return Answered { number, len: 0 };
     }

@@ -1,11 +1,8 @@
 -- `rtu::frame` meets its contract: a refusal leaves all, and any other frame is answered. Assumes nothing.
-use Rattle.rtu.proofs.Demands.{acts-refused, acts-answered, none-met}
+use Rattle.rtu.proofs.Demands.{acts-refused, acts-answered}
 use borrow.Author.Needs.{needs}
 use Rattle.rtu.proofs.frame.Statement.{statement}
 use Rattle.rtu.proofs.frame.Tie as tie
-
-frame-fault-requires : tie.Need-frame-fault-requires
-frame-fault-requires c κs = search needs
 
 refusal-requires : tie.Need-refusal-requires
 refusal-requires c κs = search needs
@@ -17,12 +14,10 @@ same-length-2 : tie.Need-same-length-2
 same-length-2 c = search needs
 
 returns : tie.Need-returns
-returns c = acts-refused _ _ (c .before .before .frame-fault .ensures) (c .before .refusal .ensures) (c .if1 .taken)
+returns c = acts-refused _ _ (c .before .refusal .ensures) (c .if1 .taken)
 
 answer-requires : tie.Need-answer-requires
-answer-requires c κs =
-    let f = c .before .before in
-    none-met _ _ (f .before .before .frame-fault .ensures) (f .before .refusal .ensures) (f .if1 .left)
+answer-requires c κs = search needs
 
 same-length-3 : tie.Need-same-length-3
 same-length-3 c = search needs
@@ -34,13 +29,12 @@ returns-2 : tie.Need-returns-2
 returns-2 c =
     let a = c .before .before .before in
     let f = a .before .before .before in
-    acts-answered _ _ (f .before .before .frame-fault .ensures) (f .before .refusal .ensures) (f .if1 .left) (a .answer .ensures)
+    acts-answered _ _ (f .before .refusal .ensures) (f .if1 .left) (a .answer .ensures)
 
 pub frame-spec : {M : Type 1} → statement M
 frame-spec =
     tie.close
     (tie.spec
-    frame-fault-requires
     refusal-requires
     same-length
     same-length-2

@@ -1,4 +1,4 @@
--- `call::call_fault` meets its contract: each way out is one of the caller's faults, or none. Assumes nothing.
+-- `call::fault` meets its contract: each way out is one of the caller's faults, or none. Assumes nothing.
 use mathlib.Core.Path.{_≡_, sym, ap, _∙_}
 use mathlib.Core.Bool.{Bool}
 use native.Mathlib.Omega.{arith}
@@ -6,8 +6,8 @@ use Rattle.numbers.specs.Numbers.{unless, badSetting}
 use Rattle.call.specs.Call.{callFault}
 use Rattle.call.proofs.Faults.{call-table, call-room, call-address}
 use borrow.Author.Needs.{needs}
-use Rattle.call.proofs.call_fault.Statement.{statement}
-use Rattle.call.proofs.call_fault.Tie as tie
+use Rattle.call.proofs.fault.Statement.{statement}
+use Rattle.call.proofs.fault.Tie as tie
 
 check-requires : tie.Need-check-requires
 check-requires c κs = search needs
@@ -39,5 +39,5 @@ returns-3 c = sym (looked (c .before) ∙ ap (λ (b : Bool). unless b badSetting
 returns-4 : tie.Need-returns-4
 returns-4 c = sym (looked (c .before) ∙ ap (λ (b : Bool). unless b badSetting) (c .if3 .left))
 
-pub call-fault-spec : {M : Type 1} → statement M
-call-fault-spec = tie.close (tie.spec check-requires returns returns-2 is-address-requires returns-3 returns-4)
+pub fault-spec : {M : Type 1} → statement M
+fault-spec = tie.close (tie.spec check-requires returns returns-2 is-address-requires returns-3 returns-4)
