@@ -39,7 +39,7 @@
  *   again, to vb_idle as well. Two lines that may answer at the same time have a buffer each. On a
  *   half-duplex line, what is heard while a reply goes out is not handed over: an echo of an item
  *   would end its own poll (43, or 41 where the echo has lost its STX and so begins another poll),
- *   and an echo of what 06H or 08H is answered by would be answered again, without end.
+ *   and an echo of any Modbus answer would be answered again, without end.
  *
  * Calls at the same time
  *   Calls that are lent different memory may run at the same time. Calls that share a table, a

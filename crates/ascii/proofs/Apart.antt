@@ -4,7 +4,7 @@ use mathlib.Core.Path.{_≡_, refl, sym, ap, ap₂, _∙_}
 use mathlib.Core.Logic.{⊎-elim}
 use mathlib.Core.Bool.{true, _&&_}
 use mathlib.Core.List.{List, [], _∷_, _++_}
-use Prim.Native.Nat.{ℕ, suc, _+_, _-_, _*_, _/_, _%_, _≤_, _<_}
+use Prim.Native.Nat.{ℕ, suc, _+_, _-_, _/_, _%_, _≤_, _<_}
 use native.Mathlib.Omega.{arith}
 use borrow.Author.Tests.{le-leb, leb-true, eqb-true, eq-eqb}
 use lib.Dec.{eqb, leb}
@@ -16,7 +16,7 @@ use Rattle.numbers.proofs.Order.{passed}
 use Rattle.crc.specs.Crc.{Bytes}
 use Rattle.crc.proofs.Bytes.{one-more}
 use Rattle.crc.proofs.Framed.{last-two}
-use Rattle.ascii.specs.Hexadecimal.{hexOf, isHex, allHex, bytesOf}
+use Rattle.ascii.specs.Hexadecimal.{hexOf, allHex, bytesOf}
 use Rattle.ascii.specs.Line.{wrongLine, wrongLrc, colon, CR, LF, lrcOf, lineOf, dropped, behindColon, endsInCrLf, beforeCrLf}
 use Rattle.ascii.specs.Line.{fewest, most, makeBytes, rightForm, bytesIn, bodyOf, lrcIn, rightLrc, lineFault}
 use Rattle.ascii.specs.Claims.{Body}

@@ -3,31 +3,25 @@
 use mathlib.Core.Path.{_≡_, sym, ap, ap₂, _∙_}
 use mathlib.Core.Bool.{Bool, _&&_}
 use mathlib.Core.List.{List, [], _∷_, _++_}
-use Prim.Native.Nat.{ℕ, _+_, _-_, _≤_}
+use Prim.Native.Nat.{ℕ, _≤_}
 use native.Mathlib.Omega.{arith}
 use borrow.Author.Tests.{le-leb}
-use lib.Dec.{leb}
 use lib.IntN.{ℤ}
 use lib.ListN.{length}
-use lib.Seq.{take-at}
-use Rattle.numbers.specs.Numbers.{none, unless, firstMet, unlessMet}
-use Rattle.crc.specs.Crc.{crc16Of, lowFirst, framed}
-use Rattle.crc.specs.Crc as crc
-use Rattle.crc.proofs.Framed.{length-framed, framed-right}
+use Rattle.numbers.specs.Numbers.{none, unless, firstMet}
+use Rattle.crc.specs.Crc.{framed}
 use Rattle.modbus.specs.declared.Answered.{Answered}
-use Rattle.modbus.specs.Outcome.{Outcome, silent}
-use Rattle.modbus.specs.Rules.{acted}
+use Rattle.modbus.specs.Outcome.{Outcome}
 use Rattle.modbus.specs.Promise.{Gives}
 use Rattle.modbus.proofs.Acting.{gives-by}
-use Rattle.call.specs.Call.{Call, refusal, sending, answeredAs}
+use Rattle.call.specs.Call.{Call, sending, answeredAs}
 use Rattle.call.specs.Demands.{OfCall}
 use Rattle.call.proofs.Answered.{as-sent, reply-bound}
 use Rattle.call.proofs.Demands.{demand-1-call}
 use Rattle.rtu.specs.Frame as rtu
-use Rattle.rtu.proofs.Refusals.{frame-crc}
 use Rattle.rtu.proofs.Replies as frames
 use Rattle.ascii.specs.Hexadecimal.{bytesOf}
-use Rattle.ascii.specs.Line.{wrongLine, wrongLrc, lineOf, dropped, behindColon, endsInCrLf, beforeCrLf, makeBytes}
+use Rattle.ascii.specs.Line.{wrongLine, wrongLrc, lineOf, dropped, endsInCrLf, beforeCrLf, makeBytes}
 use Rattle.ascii.specs.Line.{rightForm, bytesIn, bodyOf, rightLrc, lineFault, actedOn}
 use Rattle.ascii.specs.Claims.{Body, SameOutcome, OfLines}
 use Rattle.ascii.proofs.Colon.{dropped-front, behind-front}

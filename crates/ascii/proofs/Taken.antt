@@ -3,7 +3,7 @@
 use mathlib.Core.Path.{_≡_, refl, sym, ap, ap₂, subst, _∙_}
 use mathlib.Core.Bool.{Bool, true, false, _&&_}
 use mathlib.Core.List.{List, [], _∷_}
-use Prim.Native.Nat.{ℕ, suc, _+_, _-_, _*_, _/_, _%_, _≤_, _<_}
+use Prim.Native.Nat.{ℕ, suc, _+_, _*_, _/_, _%_, _≤_, _<_}
 use native.Mathlib.Numerals.{add-one}
 use native.Mathlib.Omega.{arith}
 use borrow.Author.Tests.{eqb-true, ne-eqb, leb-true, le-leb, lt-leb}
@@ -42,14 +42,14 @@ are-made characters e =
 
 -- ---- one byte more
 
-module _ (characters bytes : List ℕ) (i : ℕ) where
-  -- the bytes that are left, behind those that were stored
-  abbrev pub bytesLeft : List ℕ → ℕ → List ℕ
-  bytesLeft stored k = sets stored k (bytesOf (drop (2 * k) characters))
+-- the bytes that are left, behind those that were stored
+abbrev pub bytesLeft : List ℕ → List ℕ → ℕ → List ℕ
+bytesLeft characters stored k = sets stored k (bytesOf (drop (2 * k) characters))
 
+module _ (characters bytes : List ℕ) (i : ℕ) where
   pub bytes-turn : (v : ℕ) → i < length characters / 2
       → v ≡ 16 * halfOf (getD characters (2 * i) 0) + halfOf (getD characters (2 * i + 1) 0)
-      → bytesLeft bytes i ≡ bytesLeft (set bytes i v) (i + 1)
+      → bytesLeft characters bytes i ≡ bytesLeft characters (set bytes i v) (i + 1)
   unfolding bytesOf
   bytes-turn v h e =
       let high = getD characters (2 * i) 0 in
@@ -62,7 +62,7 @@ module _ (characters bytes : List ℕ) (i : ℕ) where
       ap (λ (xs : List ℕ). sets bytes i (bytesOf xs)) two
       ∙ ap₂ (λ (x k : ℕ). sets (set bytes i x) k (bytesOf (drop (2 * (i + 1)) characters))) (sym e) (sym (add-one i))
 
-  pub bytes-end : length characters / 2 ≤ i → bytesLeft bytes i ≡ bytes
+  pub bytes-end : length characters / 2 ≤ i → bytesLeft characters bytes i ≡ bytes
   bytes-end h =
       let left = drop (2 * i) characters in
       sets-none (bytesOf left) bytes i (omega (arith, bytes-length left, length-drop (2 * i) characters))

@@ -55,7 +55,7 @@ dropped (c ∷ line) = cond (leb 1 (dropped line)) (suc (dropped line)) (cond (e
 abbrev pub behindColon : List ℕ → List ℕ
 behindColon line = drop (dropped line) line
 
--- whether CR and LF stand at the end
+-- whether CR and LF stand at the end; one character can't be both, so there are two at least
 unfoldable pub endsInCrLf : List ℕ → Bool
 endsInCrLf rest = eqb (getD rest (length rest - 2) 0) CR && eqb (getD rest (length rest - 1) 0) LF
 

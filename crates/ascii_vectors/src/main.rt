@@ -41,15 +41,25 @@ fn exchange(table: &mut [i32], address: u8, line: &[u8], as_text: bool) {
     show_answer(answered, &reply, as_text);
 }
 
-fn text(address: u8, line: &[u8]) {
-    show::text(b"ascii");
+// A line to an instrument at its start values.
+fn from_start(address: u8, line: &[u8], as_text: bool) {
     show::byte(address);
     let mut table = [0i32; items::ITEMS];
     table::start(&mut table);
-    exchange(&mut table, address, line, true);
+    exchange(&mut table, address, line, as_text);
 }
 
-// The same after the firmware has put a value to M1.
+fn text(address: u8, line: &[u8]) {
+    show::text(b"ascii");
+    from_start(address, line, true);
+}
+
+fn bytes(address: u8, line: &[u8]) {
+    show::text(b"line");
+    from_start(address, line, false);
+}
+
+// A line as text after the firmware has put a value to M1.
 fn text_with_m1(address: u8, value: i32, line: &[u8]) {
     show::text(b"ascii");
     show::byte(address);
@@ -59,14 +69,6 @@ fn text_with_m1(address: u8, value: i32, line: &[u8]) {
     table::start(&mut table);
     table::put(&mut table, M1, value);
     exchange(&mut table, address, line, true);
-}
-
-fn bytes(address: u8, line: &[u8]) {
-    show::text(b"line");
-    show::byte(address);
-    let mut table = [0i32; items::ITEMS];
-    table::start(&mut table);
-    exchange(&mut table, address, line, false);
 }
 
 // ---- the examples

@@ -1,4 +1,4 @@
--- A call of either Modbus line, which hands in a message body between the bytes that the line adds: an RTU frame, or an ASCII line.
+-- A call of either Modbus line, which hands in a message body in the form of that line: an RTU frame, or an ASCII line.
 use Prim.Native.Nat.{ℕ}
 use mathlib.Core.Bool.{Bool, _&&_}
 use mathlib.Core.List.{List, [], _∷_}

@@ -75,7 +75,7 @@ ours address body = leb headLength (length body) && eqb (addressOf body) address
 unfoldable pub acted : List ℤ → ℕ → List ℕ → Outcome
 acted table address body = unlessMet (unless (ours address body) otherAddress) (silent table) (obeying table body)
 
--- every reply, with the bytes that a line adds, has room in a buffer of 256 bytes; a shorter buffer is refused before all else
+-- every reply, in the form that its line gives it, has room in a buffer of 256 bytes; a shorter buffer is refused before all else
 unfoldable pub actedWithin : List ℤ → ℕ → ℕ → List ℕ → Outcome
 actedWithin table room address body =
     unlessMet (unless (leb leastBuffer room) shortBuffer) (silent table) (acted table address body)

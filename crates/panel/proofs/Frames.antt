@@ -6,6 +6,7 @@ use mathlib.Core.List.{List}
 use Prim.Native.Nat.{ℕ, _/_, _%_, _≤_, _<_}
 use native.Mathlib.Omega.{arith}
 use lib.IntN.{ℤ}
+use lib.ListN.{length}
 use Rattle.modbus.specs.declared.Answered.{Answered}
 use Rattle.modbus.specs.Outcome.{Outcome}
 use Rattle.modbus.specs.Promise.{Gives}
@@ -33,26 +34,26 @@ result-single n l = omega arith
 -- ---- a frame, and a line
 
 -- an answer's length has room in a result
+gives-short : {o : Outcome} {a : Answered} {before after : List ℕ} {left : List ℤ} → length (o .reply) ≤ 255
+    → Gives o a before after left → a .len ≤ longestReply
+gives-short short g =
+    let len = g .sends .len in
+    omega arith
+
 pub acts-short : {call : Call} {frame : List ℕ} {a : Answered} {after : List ℕ} {left : List ℤ} → Acts call frame a after left
     → a .len ≤ longestReply
-acts-short {call} {frame} x =
-    let len = x .outcome .sends .len in
-    let short = frame-reply-short call frame in
-    omega arith
+acts-short {call} {frame} x = gives-short (frame-reply-short call frame) (x .outcome)
 
 pub line-short : (call : Call) (line : List ℕ) {a : Answered} {before after : List ℕ} {left : List ℤ}
     → Gives (actedOn call line) a before after left → a .len ≤ longestReply
-line-short call line g =
-    let len = g .sends .len in
-    let short = line-reply-short call line in
-    omega arith
+line-short call line = gives-short (line-reply-short call line)
 
+-- what the library promises of its answer is promised of the result
 pub gives-in : (r : ℕ) {o : Outcome} {before after : List ℕ} {left : List ℤ} {a : Answered} → a .number < 256
     → r ≡ result (a .number) (a .len) → Gives o a before after left → Gives o (answerIn r) before after left
 gives-in r {o} {before} {after} {left} n e = subst (λ (x : Answered). Gives o x before after left) (answer-held n e)
 
 module _ {call : Call} {after : List ℕ} {left : List ℤ} (r : ℕ) where
-  -- what the library promises of its answer is promised of the result
   pub acts-in : {frame : List ℕ} {a : Answered} → a .number < 256 → r ≡ result (a .number) (a .len)
       → Acts call frame a after left → Acts call frame (answerIn r) after left
   acts-in {frame} n e = subst (λ (x : Answered). Acts call frame x after left) (answer-held n e)

@@ -13,7 +13,7 @@ use Rattle.writes.specs.Writes.{isValue, over}
 use Rattle.last_write.specs.LastWrite.{Question, askNumber, lastWritten, recordsRead}
 use Rattle.panel.specs.Calls.{result, isCallFault, heldAfter}
 
--- a bound that no reply of either line is over, so that its length has room in a result
+-- a bound that no reply of any line is over, so that its length has room in a result
 abbrev pub longestReply : ℕ
 longestReply = 256
 

@@ -21,8 +21,8 @@ use Rattle.writes.specs.declared.Given.{Given}
 use Rattle.writes.specs.declared.Given.the-variants.{Nothing}
 use Rattle.writes.specs.Writes.{allowed, each, given, later, over}
 use Rattle.writes.proofs.Stored.{later-none, later-assoc, over-later, all-given, read-only-given}
-use Rattle.modbus.specs.Outcome.{Outcome, silent}
-use Rattle.modbus.specs.Rules.{ours, acted}
+use Rattle.modbus.specs.Outcome.{Outcome}
+use Rattle.modbus.specs.Rules.{ours}
 use Rattle.settings.specs.Settings.{writesOf, rightForm, acceptsWrite}
 use Rattle.settings.proofs.Accepted.{accepted-stores, others-leave}
 use Rattle.call.specs.Call.{Call, isAddress, callFault}

@@ -1,6 +1,6 @@
 -- `ascii::dropped` meets its contract. The loop's invariant: there is no colon behind the place, so what stands in front of it
 -- decides. Assumes nothing.
-use mathlib.Core.Path.{_≡_, refl, sym, ap, subst, _∙_}
+use mathlib.Core.Path.{_≡_, sym, ap, _∙_}
 use mathlib.Core.List.{List}
 use Prim.Native.Nat.{ℕ, suc, _-_, _≤_, _<_}
 use native.Mathlib.Omega.{arith}

@@ -1,6 +1,5 @@
 -- `ascii::ends_in_cr_lf` meets its contract: what is too short for both does not end in them. Assumes nothing.
 use mathlib.Core.Path.{refl, sym}
-use native.Mathlib.Omega.{arith}
 use borrow.Author.Needs.{needs}
 use Rattle.ascii.specs.Line.{endsInCrLf}
 use Rattle.ascii.proofs.Taken.{too-short}

@@ -1,7 +1,4 @@
 -- `ascii::is_hex` meets its contract: each way out lies inside a range, or outside both. Assumes nothing.
-use mathlib.Core.Path.{_≡_}
-use mathlib.Core.Bool.{true, false}
-use Prim.Native.Nat.{ℕ, _≤_, _<_}
 use native.Mathlib.Omega.{arith}
 use borrow.Author.Tests.{le-leb, lt-leb}
 use Rattle.ascii.specs.Hexadecimal.{zeroDigit, nineDigit, firstLetter, lastLetter, isHex}

@@ -1,5 +1,4 @@
 -- `ascii::make_bytes` meets its contract: the characters are looked at where their number is right. Assumes nothing.
-use mathlib.Core.Path.{refl, sym, _∙_}
 use borrow.Author.Needs.{needs}
 use Rattle.ascii.specs.Line.{makeBytes}
 use Rattle.ascii.proofs.make_bytes.Statement.{statement}

@@ -1,20 +1,20 @@
 -- `ascii::put_bytes` meets its contract. The loop's invariant: storing the bytes that are left gives the buffer that storing all
 -- of them gives. Assumes nothing.
-use mathlib.Core.Path.{_≡_, refl, sym, ap, ap₂, _∙_}
+use mathlib.Core.Path.{_≡_, refl, sym, ap₂, _∙_}
 use Prim.Native.Nat.{ℕ, _+_, _-_, _*_, _/_, _≤_, _<_}
 use native.Mathlib.Omega.{arith}
-use lib.ListN.{length, getD, drop, length-set}
+use lib.ListN.{length, length-set}
 use lib.Seq.{sets}
-use Rattle.ascii.specs.Hexadecimal.{halfOf, bytesOf}
+use Rattle.ascii.specs.Hexadecimal.{bytesOf}
 use Rattle.ascii.proofs.Hexadecimal.{hex-at, half-below}
-use Rattle.ascii.proofs.Taken.{bytes-turn, bytes-end}
+use Rattle.ascii.proofs.Taken.{bytesLeft, bytes-turn, bytes-end}
 use Rattle.ascii.proofs.put_bytes.Statement.{statement}
 use Rattle.ascii.proofs.put_bytes.Tie as tie
 
 abbrev Inv-loop : tie.InvT-loop
 Inv-loop bytes₀ characters n i₀ bytes i =
     (i ≤ length characters / 2) × (length bytes ≡ length bytes₀)
-    × (sets bytes i (bytesOf (drop (2 * i) characters)) ≡ sets bytes₀ 0 (bytesOf characters))
+    × (bytesLeft characters bytes i ≡ sets bytes₀ 0 (bytesOf characters))
 
 abbrev μ-loop : tie.MeasureT-loop
 μ-loop bytes₀ characters n i₀ bytes i = n - i

@@ -1,10 +1,9 @@
 -- `ascii::spread` meets its contract. The loop's invariant: spreading the bytes in front of the place gives the buffer that
 -- spreading all of them gives. Assumes nothing.
-use mathlib.Core.Path.{_≡_, refl, sym, ap, ap₂, _∙_}
-use mathlib.Core.List.{List, [], _∷_, _++_}
+use mathlib.Core.Path.{_≡_, refl, sym, ap, _∙_}
+use mathlib.Core.List.{List, [], _∷_}
 use Prim.Native.Nat.{ℕ, suc, _+_, _-_, _*_, _≤_, _<_}
 use native.Mathlib.Omega.{arith}
-use borrow.Author.Needs.{needs}
 use lib.ListN.{length, getD, take}
 use lib.Seq.{sets, length-sets, length-take-le, take-suc}
 use Rattle.ascii.specs.Hexadecimal.{hexOf}

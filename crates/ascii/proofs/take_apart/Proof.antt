@@ -1,6 +1,6 @@
 -- `ascii::take_apart` meets its contract: what stands behind the last colon decides. Assumes nothing.
-use mathlib.Core.Path.{_≡_, sym, ap, _∙_}
-use Prim.Native.Nat.{ℕ, _-_}
+use mathlib.Core.Path.{sym, ap, _∙_}
+use Prim.Native.Nat.{ℕ, _-_, _≤_}
 use native.Mathlib.Omega.{arith}
 use borrow.Author.Needs.{needs}
 use lib.ListN.{length, drop, length-drop}
@@ -17,11 +17,15 @@ dropped-requires c κs = search needs
 returns : tie.Need-returns
 returns c = takes-none _ (none-taken _ (sym (c .before .dropped .ensures) ∙ c .if1 .taken))
 
+-- the last colon stands in the line
+inside : (c : tie.After-dropped) → c .dropped .result ≤ length (c .before .before .before .args .line .now)
+inside c = omega (arith, dropped-short (c .before .before .before .args .line .now), c .dropped .ensures)
+
 sub-take-rest : tie.Need-sub-take-rest
-sub-take-rest c = let short = dropped-short (c .before .before .before .before .before .args .line .now) in omega (arith, c .before .before .dropped .ensures)
+sub-take-rest c = inside (c .before .before)
 
 part-take-rest-start : tie.Need-part-take-rest-start
-part-take-rest-start c = let short = dropped-short (c .before .before .before .before .before .args .line .now) in omega (arith, c .before .before .dropped .ensures)
+part-take-rest-start c = inside (c .before .before)
 
 part-take-rest-end : tie.Need-part-take-rest-end
 part-take-rest-end c = search needs

@@ -1,6 +1,5 @@
 -- `ascii::take_rest` meets its contract: what stands in front of CR LF decides. Assumes nothing.
-use mathlib.Core.Path.{_≡_, sym, subst, _∙_}
-use mathlib.Core.List.{List}
+use mathlib.Core.Path.{sym, _∙_}
 use native.Mathlib.Omega.{arith}
 use borrow.Author.Needs.{needs}
 use borrow.Author.Tests.{not-true, not-false}

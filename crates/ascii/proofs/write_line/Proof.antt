@@ -1,10 +1,9 @@
 -- `ascii::write_line` meets its contract: the stores leave the line of the body that was there. Assumes nothing.
-use mathlib.Core.Path.{_≡_, sym, ap, _∙_}
-use Prim.Native.Nat.{_+_, _*_, _≤_}
+use mathlib.Core.Path.{sym}
 use native.Mathlib.Omega.{arith}
 use borrow.Author.Needs.{needs}
-use lib.ListN.{length, length-set}
-use lib.Seq.{length-sets, length-take-le}
+use lib.ListN.{length-set}
+use lib.Seq.{length-take-le}
 use Rattle.ascii.proofs.Written.{writes}
 use Rattle.ascii.proofs.write_line.Statement.{statement}
 use Rattle.ascii.proofs.write_line.Tie as tie

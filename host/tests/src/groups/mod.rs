@@ -117,7 +117,7 @@ const GROUPS: &[(&str, Calls)] = &[
     ("any write of several registers", several::any),
     ("sessions on the RKC line", sessions::whole),
     ("sessions on a bad line", sessions::damaged),
-    ("sessions on the Modbus line", modbus_sessions::whole),
+    ("sessions on the RTU line", modbus_sessions::whole),
     ("sessions on both Modbus lines", ascii::sessions),
     ("any line", ascii::any),
     ("sessions played back", captures::sessions),

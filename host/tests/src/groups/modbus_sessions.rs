@@ -1,4 +1,4 @@
-//! Sessions on the Modbus line: the table goes on from frame to frame, and what was written is read
+//! Sessions on the RTU line: the table goes on from frame to frame, and what was written is read
 //! back.
 
 use super::requests::{heard, words};

@@ -1,4 +1,4 @@
-//! Sessions on the Modbus line, handed over frame by frame and played back.
+//! Sessions on the RTU line, handed over frame by frame and played back.
 
 use super::{playback, Parts};
 use crate::call::{Call, Function};

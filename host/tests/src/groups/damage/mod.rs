@@ -1,4 +1,4 @@
-//! Damage on the Modbus line that the CRC always shows: an odd number of flipped bits, and any
+//! Damage on the RTU line that the CRC always shows: an odd number of flipped bits, and any
 //! flips within 16 bits in a row. Bits count as they are sent, the lowest of each byte first.
 
 mod bursts;

@@ -1,4 +1,4 @@
-//! Sessions on the Modbus line, asked for every item and played back.
+//! Sessions on the RTU line, asked for every item and played back.
 
 use super::{asking, tells, Told};
 use crate::call::Call;
