@@ -58,7 +58,7 @@ impl Instrument {
         (last, replies)
     }
 
-    /// A frame on the Modbus line.
+    /// An RTU frame.
     fn rtu(&mut self, frame: &[u8]) -> (u32, Vec<u8>) {
         let result = reference::rtu(&mut self.table, &mut self.reply, self.address, frame);
         self.taken_apart(result)
