@@ -13,13 +13,13 @@ use Rattle.modbus.proofs.Acting.{gives-by}
 use Rattle.call.specs.Call.{Call, refusal, answeredAs}
 use Rattle.call.proofs.Faults.{not-refused}
 use Rattle.call.proofs.Answered.{gives-refused}
-use Rattle.ascii.specs.Line.{fewest, most, lineOf, bytesIn, bodyOf, lineFault, actedOn}
+use Rattle.ascii.specs.Line.{fewest, most, lineOf, bytesIn, messageOf, lineFault, actedOn}
 use Rattle.ascii.specs.Promise.{bytesTaken, bytesFault, Takes}
 use Rattle.ascii.proofs.Faults.{taken-fault, form-right, right-number, all-taken, body-taken}
 
 module _ (call : Call) (line : List ℕ) where
   -- the outcome of a line is that of a call
-  pub as-call : actedOn call line ≡ answeredAs lineOf call (lineFault line) (bodyOf (bytesIn line))
+  pub as-call : actedOn call line ≡ answeredAs lineOf call (lineFault line) (messageOf (bytesIn line))
   unfolding actedOn
   as-call = refl
 
@@ -38,7 +38,7 @@ module _ (call : Call) (line : List ℕ) where
     line-refused {r} h e =
         let number = refusal call fault in
         let met : number ≡ none → ⊥ = λ z. h (not-refused call fault z .1) in
-        let refused = gives-refused lineOf call (lineFault line) (bodyOf (bytesIn line)) (ap (refusal call) line-fault) met in
+        let refused = gives-refused lineOf call (lineFault line) (messageOf (bytesIn line)) (ap (refusal call) line-fault) met in
         subst⁻¹ (λ (a : Answered). Gives (actedOn call line) a (call .buffer) (call .buffer) (call .table)) e
         (gives-by (sym as-call) refused)
 

@@ -18,7 +18,7 @@ use Rattle.crc.proofs.Bytes.{one-more}
 use Rattle.crc.proofs.Framed.{last-two}
 use Rattle.ascii.specs.Hexadecimal.{hexOf, allHex, bytesOf}
 use Rattle.ascii.specs.Line.{wrongLine, wrongLrc, colon, CR, LF, lrcOf, lineOf, dropped, behindColon, endsInCrLf, beforeCrLf}
-use Rattle.ascii.specs.Line.{fewest, most, makeBytes, rightForm, bytesIn, bodyOf, lrcIn, rightLrc, lineFault}
+use Rattle.ascii.specs.Line.{fewest, most, makeBytes, rightForm, bytesIn, messageOf, lrcIn, rightLrc, lineFault}
 use Rattle.ascii.specs.Claims.{Body}
 use Rattle.ascii.proofs.Hexadecimal.{hex-range, hex-at, all-hex, bytes-back, hex-again}
 use Rattle.ascii.proofs.Colon.{dropped-short, colon-there, dropped-first, none-dropped}
@@ -106,15 +106,15 @@ module _ (body : List ℕ) (b : Body body) where
   one-less : length body ≡ length sent - 1
   one-less = omega (arith, length-append body (lrcOf body ∷ []))
 
-  sent-body : bodyOf sent ≡ body
+  sent-body : messageOf sent ≡ body
   sent-body = take-at body (lrcOf body ∷ []) (length sent - 1) one-less
 
   sent-right : rightLrc sent ≡ true
   sent-right =
-      eq-eqb (lrcOf (bodyOf sent)) (lrcIn sent) (ap lrcOf sent-body ∙ sym (getD-at body (lrcOf body) [] 0 (length sent - 1) one-less))
+      eq-eqb (lrcOf (messageOf sent)) (lrcIn sent) (ap lrcOf sent-body ∙ sym (getD-at body (lrcOf body) [] 0 (length sent - 1) one-less))
 
-  pub line-body : bodyOf (bytesIn (lineOf body)) ≡ body
-  line-body = ap bodyOf line-bytes ∙ sent-body
+  pub line-body : messageOf (bytesIn (lineOf body)) ≡ body
+  line-body = ap messageOf line-bytes ∙ sent-body
 
   pub line-no-fault : lineFault (lineOf body) ≡ none
   unfolding lineFault
@@ -134,16 +134,16 @@ end-again rest e =
     ∙ ap₂ (λ (x y : ℕ). x ∷ y ∷ []) (eqb-true (getD rest (n - 2) 0) CR (parts .0)) (eqb-true (getD rest (n - 1) 0) LF (parts .1)))
 
 -- bytes of which the last is the LRC of the others
-bytes-again : (bytes : List ℕ) → 1 ≤ length bytes → rightLrc bytes ≡ true → bytes ≡ bodyOf bytes ++ (lrcOf (bodyOf bytes) ∷ [])
+bytes-again : (bytes : List ℕ) → 1 ≤ length bytes → rightLrc bytes ≡ true → bytes ≡ messageOf bytes ++ (lrcOf (messageOf bytes) ∷ [])
 bytes-again bytes h e =
     let n = length bytes in
     let back : suc (n - 1) ≡ n = omega arith in
     sym (take-length bytes)
     ∙ ap (λ (k : ℕ). take k bytes) (sym back)
     ∙ take-suc bytes (n - 1) 0 (omega arith)
-    ∙ ap (λ (x : ℕ). bodyOf bytes ++ (x ∷ [])) (sym (eqb-true (lrcOf (bodyOf bytes)) (lrcIn bytes) e))
+    ∙ ap (λ (x : ℕ). messageOf bytes ++ (x ∷ [])) (sym (eqb-true (lrcOf (messageOf bytes)) (lrcIn bytes) e))
 
-pub line-again : (line : List ℕ) → lineFault line ≡ none → drop (dropped line - 1) line ≡ lineOf (bodyOf (bytesIn line))
+pub line-again : (line : List ℕ) → lineFault line ≡ none → drop (dropped line - 1) line ≡ lineOf (messageOf (bytesIn line))
 unfolding lineFault rightForm bytesIn lineOf
 line-again line e =
     let rest = behindColon line in

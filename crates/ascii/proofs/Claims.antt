@@ -22,7 +22,7 @@ use Rattle.rtu.specs.Frame as rtu
 use Rattle.rtu.proofs.Replies as frames
 use Rattle.ascii.specs.Hexadecimal.{bytesOf}
 use Rattle.ascii.specs.Line.{wrongLine, wrongLrc, lineOf, dropped, endsInCrLf, beforeCrLf, makeBytes}
-use Rattle.ascii.specs.Line.{rightForm, bytesIn, bodyOf, rightLrc, lineFault, actedOn}
+use Rattle.ascii.specs.Line.{rightForm, bytesIn, messageOf, rightLrc, lineFault, actedOn}
 use Rattle.ascii.specs.Claims.{Body, SameOutcome, OfLines}
 use Rattle.ascii.proofs.Colon.{dropped-front, behind-front}
 use Rattle.ascii.proofs.Written.{line-length}
@@ -35,13 +35,13 @@ use Rattle.ascii.proofs.Apart.{line-body, line-no-fault, line-again}
 -- every call that gives the outcome of a line meets demand 1
 pub demand-1-line : (call : Call) (line : List ℕ) {r : Answered} {after : List ℕ} {left : List ℤ}
     → Gives (actedOn call line) r (call .buffer) after left → OfCall call r after left
-demand-1-line call line g = demand-1-call lineOf call (lineFault line) (bodyOf (bytesIn line)) (gives-by (as-call call line) g)
+demand-1-line call line g = demand-1-call lineOf call (lineFault line) (messageOf (bytesIn line)) (gives-by (as-call call line) g)
 
 -- a reply has at most 255 characters
 pub line-reply-short : (call : Call) (line : List ℕ) → length (actedOn call line .reply) ≤ 255
 unfolding actedOn
 line-reply-short call line =
-    reply-bound lineOf 255 (λ body h. omega (arith, line-length body)) call (lineFault line) (bodyOf (bytesIn line))
+    reply-bound lineOf 255 (λ body h. omega (arith, line-length body)) call (lineFault line) (messageOf (bytesIn line))
 
 -- ---- a colon starts afresh
 
@@ -65,7 +65,7 @@ module _ (before line : List ℕ) (h : 1 ≤ dropped line) where
   starts-afresh : (call : Call) → actedOn call (before ++ line) ≡ actedOn call line
   unfolding actedOn
   starts-afresh call =
-      ap₂ (λ (fault : ℕ) (bytes : List ℕ). answeredAs lineOf call fault (bodyOf bytes)) same-fault same-bytes
+      ap₂ (λ (fault : ℕ) (bytes : List ℕ). answeredAs lineOf call fault (messageOf bytes)) same-fault same-bytes
 
 -- ---- both modes
 

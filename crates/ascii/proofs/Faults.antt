@@ -13,7 +13,7 @@ use Rattle.numbers.proofs.Tests.{both}
 use Rattle.numbers.proofs.Order.{last-met, passed}
 use Rattle.ascii.specs.Hexadecimal.{bytesOf}
 use Rattle.ascii.specs.Line.{wrongLine, wrongLrc, dropped, behindColon, endsInCrLf, beforeCrLf, fewest, most, makeBytes}
-use Rattle.ascii.specs.Line.{rightForm, bytesIn, bodyOf, rightLrc, lineFault}
+use Rattle.ascii.specs.Line.{rightForm, bytesIn, messageOf, rightLrc, lineFault}
 use Rattle.ascii.specs.Promise.{bytesMade, bytesBehind, bytesTaken, bytesFault, Takes}
 use Rattle.ascii.proofs.Hexadecimal.{bytes-length}
 use Rattle.ascii.proofs.Taken.{are-made}
@@ -62,7 +62,7 @@ module _ (line : List ℕ) where
 
   -- and the body stands in front of the last of them
   pub body-taken : {after : List ℕ} {n : ℕ} → lineFault line ≡ none → Takes (bytesTaken line) after n
-      → take (n - 1) after ≡ bodyOf (bytesIn line)
+      → take (n - 1) after ≡ messageOf (bytesIn line)
   body-taken {after} {n} e t =
       let all = all-taken e in
       sym (take-take (n - 1) n after (omega arith))

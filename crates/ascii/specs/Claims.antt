@@ -8,7 +8,7 @@ use Rattle.crc.specs.Crc.{Bytes, framed}
 use Rattle.modbus.specs.Outcome.{Outcome}
 use Rattle.call.specs.Call.{Call, sentAs}
 use Rattle.rtu.specs.Frame as rtu
-use Rattle.ascii.specs.Line.{lineOf, dropped, bytesIn, bodyOf, lineFault, actedOn}
+use Rattle.ascii.specs.Line.{lineOf, dropped, bytesIn, messageOf, lineFault, actedOn}
 
 -- the bodies that a line can have, which are those that a frame can have: 2 to 254 bytes
 pub record Body (body : List ℕ) : Type 0 where
@@ -24,9 +24,9 @@ pub record SameOutcome (ofFrame ofLine : Outcome) : Type 0 where
 
 pub record OfLines : Type 0 where
   -- a line that is made of a body has no fault, and is taken apart into that body
-  pub takenApart : (body : List ℕ) → Body body → (lineFault (lineOf body) ≡ none) × (bodyOf (bytesIn (lineOf body)) ≡ body)
+  pub takenApart : (body : List ℕ) → Body body → (lineFault (lineOf body) ≡ none) × (messageOf (bytesIn (lineOf body)) ≡ body)
   -- a line without a fault is, from its last colon on, the line of the body that it is taken apart into
-  pub madeAgain : (line : List ℕ) → lineFault line ≡ none → drop (dropped line - 1) line ≡ lineOf (bodyOf (bytesIn line))
+  pub madeAgain : (line : List ℕ) → lineFault line ≡ none → drop (dropped line - 1) line ≡ lineOf (messageOf (bytesIn line))
   -- a colon starts afresh: what stands in front of a line that has one changes nothing
   pub afresh : (call : Call) (before line : List ℕ) → 1 ≤ dropped line → actedOn call (before ++ line) ≡ actedOn call line
   -- for the same body both modes give the same number, table and reply body

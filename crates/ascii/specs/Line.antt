@@ -87,14 +87,14 @@ rightForm line =
 unfoldable pub bytesIn : List ℕ → List ℕ
 bytesIn line = bytesOf (beforeCrLf (behindColon line))
 
-abbrev pub bodyOf : List ℕ → List ℕ
-bodyOf bytes = take (length bytes - 1) bytes
+abbrev pub messageOf : List ℕ → List ℕ
+messageOf bytes = take (length bytes - 1) bytes
 
 abbrev pub lrcIn : List ℕ → ℕ
 lrcIn bytes = getD bytes (length bytes - 1) 0
 
 abbrev pub rightLrc : List ℕ → Bool
-rightLrc bytes = eqb (lrcOf (bodyOf bytes)) (lrcIn bytes)
+rightLrc bytes = eqb (lrcOf (messageOf bytes)) (lrcIn bytes)
 
 -- The line's fault: its form, then its LRC.
 unfoldable pub lineFault : List ℕ → ℕ
@@ -102,4 +102,4 @@ lineFault line = firstMet (unless (rightForm line) wrongLine ∷ unless (rightLr
 
 -- What comes of a line: it is answered as a call that brought its fault and its body, and a reply is sent as a line.
 unfoldable pub actedOn : Call → List ℕ → Outcome
-actedOn call line = answeredAs lineOf call (lineFault line) (bodyOf (bytesIn line))
+actedOn call line = answeredAs lineOf call (lineFault line) (messageOf (bytesIn line))

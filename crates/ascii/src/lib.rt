@@ -1,4 +1,4 @@
-// One line of Modbus ASCII: the message rules between taking a line apart and a reply that is sent as such a line.
+// One line of Modbus ASCII: it is taken apart, its message is obeyed as in RTU, and the reply goes back as such a line.
 ghost use mathlib.Core.Path.{_≡_};
 ghost use mathlib.Core.Bool.{true};
 ghost use mathlib.Core.List.{[], _∷_};
@@ -265,7 +265,7 @@ fn refuse(table: &[i32], reply: &[u8], address: u8, fault: u8) -> Answered
 
 // The message that is the first n of these bytes goes on as the frame that it would be in RTU, and the body of the reply becomes a
 // line. So the rules for a message have one caller, into which the compiler copies them; called from two places, they would cost
-// every RTU frame some forty instructions more.
+// every RTU frame some thirty instructions more than it takes.
 fn answer(table: &mut [i32], reply: &mut [u8], address: u8, bytes: &mut [u8], n: usize) -> Answered
     requires { ⌜ (2 ≤ n) × (n ≤ 254) × (n + 2 ≤ length (now bytes)) ⌝ }
     ensures { λ r. ⌜ Gives (answeredAs lineOf (record {

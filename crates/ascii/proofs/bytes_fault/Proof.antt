@@ -8,7 +8,7 @@ use borrow.Author.Tests.{eq-eqb, ne-eqb}
 use lib.ListN.{length}
 use lib.Seq.{length-take-le}
 use Rattle.numbers.specs.Numbers.{none}
-use Rattle.ascii.specs.Line.{wrongLine, wrongLrc, lrcOf, bodyOf, lrcIn}
+use Rattle.ascii.specs.Line.{wrongLine, wrongLrc, lrcOf, messageOf, lrcIn}
 use Rattle.ascii.specs.Promise.{bytesFault}
 use Rattle.ascii.proofs.bytes_fault.Statement.{statement}
 use Rattle.ascii.proofs.bytes_fault.Tie as tie
@@ -20,16 +20,16 @@ no-bytes (b ∷ bytes) e = absurd (omega arith)
 
 -- where there are bytes, the LRC decides
 module _ (lrc : ℕ) where
-  lrc-right : (bytes : List ℕ) → (length bytes ≡ 0 → ⊥) → lrc ≡ lrcOf (bodyOf bytes) → lrc ≡ lrcIn bytes → none ≡ bytesFault bytes
+  lrc-right : (bytes : List ℕ) → (length bytes ≡ 0 → ⊥) → lrc ≡ lrcOf (messageOf bytes) → lrc ≡ lrcIn bytes → none ≡ bytesFault bytes
   unfolding bytesFault
   lrc-right [] h e r = absurd (h refl)
-  lrc-right (b ∷ bytes) h e r = rw (eq-eqb (lrcOf (bodyOf (b ∷ bytes))) (lrcIn (b ∷ bytes)) (sym e ∙ r))
+  lrc-right (b ∷ bytes) h e r = rw (eq-eqb (lrcOf (messageOf (b ∷ bytes))) (lrcIn (b ∷ bytes)) (sym e ∙ r))
 
-  lrc-wrong : (bytes : List ℕ) → (length bytes ≡ 0 → ⊥) → lrc ≡ lrcOf (bodyOf bytes) → (lrc ≡ lrcIn bytes → ⊥)
+  lrc-wrong : (bytes : List ℕ) → (length bytes ≡ 0 → ⊥) → lrc ≡ lrcOf (messageOf bytes) → (lrc ≡ lrcIn bytes → ⊥)
       → wrongLrc ≡ bytesFault bytes
   unfolding bytesFault
   lrc-wrong [] h e r = absurd (h refl)
-  lrc-wrong (b ∷ bytes) h e r = rw (ne-eqb (lrcOf (bodyOf (b ∷ bytes))) (lrcIn (b ∷ bytes)) (λ z. r (e ∙ z)))
+  lrc-wrong (b ∷ bytes) h e r = rw (ne-eqb (lrcOf (messageOf (b ∷ bytes))) (lrcIn (b ∷ bytes)) (λ z. r (e ∙ z)))
 
 returns : tie.Need-returns
 returns c = no-bytes _ (c .if1 .taken)
