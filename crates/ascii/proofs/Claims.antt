@@ -1,7 +1,7 @@
 -- What is claimed of lines of Modbus ASCII, and demand 1 on this line.
 -- Assumes nothing.
 use mathlib.Core.Path.{_≡_, sym, ap, ap₂, _∙_}
-use mathlib.Core.Bool.{Bool, _&&_}
+use mathlib.Core.Bool.{Bool, true, _&&_}
 use mathlib.Core.List.{List, [], _∷_, _++_}
 use Prim.Native.Nat.{ℕ, _≤_}
 use native.Mathlib.Omega.{arith}
@@ -14,10 +14,11 @@ use Rattle.modbus.specs.declared.Answered.{Answered}
 use Rattle.modbus.specs.Outcome.{Outcome}
 use Rattle.modbus.specs.Promise.{Gives}
 use Rattle.modbus.proofs.Acting.{gives-by}
+use Rattle.table.specs.Table.{goodTable}
 use Rattle.call.specs.Call.{Call, sending, answeredAs}
 use Rattle.call.specs.Demands.{OfCall}
 use Rattle.call.proofs.Answered.{as-sent, reply-bound}
-use Rattle.call.proofs.Demands.{demand-1-call}
+use Rattle.call.proofs.Demands.{call-good, demand-1-call}
 use Rattle.rtu.specs.Frame as rtu
 use Rattle.rtu.proofs.Replies as frames
 use Rattle.ascii.specs.Hexadecimal.{bytesOf}
@@ -36,6 +37,11 @@ use Rattle.ascii.proofs.Apart.{line-body, line-no-fault, line-again}
 pub demand-1-line : (call : Call) (line : List ℕ) {r : Answered} {after : List ℕ} {left : List ℤ}
     → Gives (actedOn call line) r (call .buffer) after left → OfCall call r after left
 demand-1-line call line g = demand-1-call lineOf call (lineFault line) (messageOf (bytesIn line)) (gives-by (as-call call line) g)
+
+-- a good table stays good
+pub line-good : (call : Call) (line : List ℕ) → goodTable (call .table) ≡ true → goodTable (actedOn call line .table) ≡ true
+unfolding actedOn
+line-good call line = call-good lineOf call (lineFault line) (messageOf (bytesIn line))
 
 -- a reply has at most 255 characters
 pub line-reply-short : (call : Call) (line : List ℕ) → length (actedOn call line .reply) ≤ 255

@@ -1,6 +1,6 @@
 -- Demand 1 on both Modbus lines, as claimed in specs/Demands.antt: what a call leaves alone.
 -- Assumes nothing.
-use mathlib.Core.Path.{_≡_, refl, sym, ap, _∙_}
+use mathlib.Core.Path.{_≡_, refl, sym, ap, subst⁻¹, _∙_}
 use mathlib.Core.Logic.{_⊎_, inl}
 use mathlib.Core.Bool.{true, false}
 use mathlib.Core.List.{List}
@@ -10,8 +10,8 @@ use lib.IntN.{ℤ}
 use lib.ListN.{length}
 use lib.Seq.{sets}
 use Rattle.items.specs.ItemList.{itemAt, inRange}
-use Rattle.table.specs.Table.{goodTable, entry}
-use Rattle.table.proofs.Laws.{good-entry}
+use Rattle.table.specs.Table.{entry, isAlarmState, goodTable, AlarmsTrue}
+use Rattle.table.proofs.Laws.{good-entry, good-alarms}
 use Rattle.modbus.specs.declared.Answered.{Answered}
 use Rattle.modbus.specs.Outcome.{Outcome, unknownFunction, silent}
 use Rattle.modbus.specs.Promise.{Gives}
@@ -60,10 +60,10 @@ module _ (form : List ℕ → List ℕ) (call : Call) (fault : ℕ) (body : List
       (λ number. inl refl)
       (stays-or-in-range (call .table) (call .address) body j)
 
-  pub call-read-only : (j : ℕ) → itemAt j .writable ≡ false → entry (answered .table) j ≡ entry (call .table) j
-  call-read-only j h =
+  pub call-read-only : (j : ℕ) → itemAt j .writable ≡ false → isAlarmState j ≡ false → entry (answered .table) j ≡ entry (call .table) j
+  call-read-only j h o =
       every-call form call fault body (λ (o : Outcome). entry (o .table) j ≡ entry (call .table) j) (λ number. refl)
-      (read-only-stays (call .table) (call .address) body j h)
+      (read-only-stays (call .table) (call .address) body j h o)
 
   pub call-good : goodTable (call .table) ≡ true → goodTable (answered .table) ≡ true
   call-good g =
@@ -81,7 +81,8 @@ module _ (form : List ℕ → List ℕ) (call : Call) (fault : ℕ) (body : List
             untouched g (r .number) (refused-silent (omega arith) (omega arith) ∙ ap (silent (call .table)) (sym given));
         numberLeavesTable = λ h. g .table ∙ numbered-leaves (omega arith);
         staysOrInRange = λ j. rw (g .table) (call-in-range j);
-        readOnlyStays = λ j h. rw (g .table) (call-read-only j h);
+        readOnlyStays = λ j h o. rw (g .table) (call-read-only j h o);
         goodStaysGood = λ h. rw (g .table) (call-good h);
         inRangeStays = λ h j k. rw (g .table) (good-entry _ j (call-good h) k);
+        alarmsStayTrue = λ h. subst⁻¹ AlarmsTrue (g .table) (good-alarms _ (call-good h));
       }

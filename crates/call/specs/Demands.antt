@@ -7,7 +7,7 @@ use Prim.Native.Nat.{ℕ, _<_}
 use lib.IntN.{ℤ}
 use Rattle.numbers.specs.Numbers.{none}
 use Rattle.items.specs.ItemList.{items, itemAt, inRange}
-use Rattle.table.specs.Table.{goodTable, entry}
+use Rattle.table.specs.Table.{entry, isAlarmState, goodTable, AlarmsTrue}
 use Rattle.modbus.specs.declared.Answered.{Answered}
 use Rattle.modbus.specs.Outcome.{unknownFunction}
 use Rattle.call.specs.Call.{Call, callFault}
@@ -21,9 +21,11 @@ pub record OfCall (call : Call) (r : Answered) (after : List ℕ) (left : List �
   pub refusalLeavesAll : 0 < r .number → r .number < unknownFunction → Untouched (r .number) call r after left
   -- an exception leaves the table too
   pub numberLeavesTable : 0 < r .number → left ≡ call .table
-  -- whatever the table, each entry stays as it was or is in its range, and that of a read-only item stays as it was
+  -- whatever the table, each entry stays as it was or is in its range, and that of a read-only item stays as it was, the alarm states
+  -- apart
   pub staysOrInRange : (j : ℕ) → (entry left j ≡ entry (call .table) j) ⊎ (inRange j (entry left j) ≡ true)
-  pub readOnlyStays : (j : ℕ) → itemAt j .writable ≡ false → entry left j ≡ entry (call .table) j
-  -- a good table stays good, so each entry stays in its range
+  pub readOnlyStays : (j : ℕ) → itemAt j .writable ≡ false → isAlarmState j ≡ false → entry left j ≡ entry (call .table) j
+  -- a good table stays good, so each entry stays in its range, and the alarm states, which change only to stay true, are true
   pub goodStaysGood : goodTable (call .table) ≡ true → goodTable left ≡ true
   pub inRangeStays : goodTable (call .table) ≡ true → (j : ℕ) → j < items → inRange j (entry left j) ≡ true
+  pub alarmsStayTrue : goodTable (call .table) ≡ true → AlarmsTrue left

@@ -17,8 +17,8 @@ use Rattle.numbers.proofs.Tests.{contrary, chosen}
 use Rattle.numbers.proofs.Order.{either-way}
 use Rattle.items.specs.ItemList.{items, itemAt, inRange}
 use Rattle.table.specs.Table as table
-use Rattle.table.specs.Table.{goodTable, entry, stored}
-use Rattle.table.proofs.Laws.{good-stored, stored-in-range, stored-read-only, answered-AA, answered-AB}
+use Rattle.table.specs.Table.{goodTable, entry, stored, IsTrue}
+use Rattle.table.proofs.Laws.{good-alarms, good-stored, stored-in-range, stored-read-only}
 use Rattle.line.specs.Line.{within, sent, heard, lastStructure}
 use Rattle.line.proofs.Parity.{sent-keeps}
 use Rattle.text.specs.Numbers.{width}
@@ -139,10 +139,11 @@ module _ (call : ByteCall) where
     staysOrInRange = λ j.
         of-table (λ (u : List ℤ). (entry u j ≡ entry (call .table) j) ⊎ (inRange j (entry u j) ≡ true)) (inl refl)
         (λ i v w r. stored-in-range (call .table) i j v r);
-    readOnlyStays = λ j r.
+    readOnlyStays = λ j r o.
         of-table (λ (u : List ℤ). entry u j ≡ entry (call .table) j) refl
-        (λ i v w g. stored-read-only (call .table) i j v w r);
+        (λ i v w g. stored-read-only (call .table) i j v w r o);
     goodStaysGood = λ g. good-after g;
+    alarmsStayTrue = λ g. good-alarms (received call .table) (good-after g);
     staysInLimits = λ z. after z;
     runsOn = λ z time byte.
         let f = byte-none call z in
@@ -202,16 +203,18 @@ module _ (call : IdleCall) where
 
 -- ---- the alarm states on the line
 
--- the number text of an alarm's state
-alarm-text : (t : List ℤ) (limit : ℕ) (b : Bool) → leZ (entry t limit) (entry t table.M1) ≡ b
-    → written width 0 (table.alarm t limit) ≡ accepted (stateText b)
-unfolding table.alarm written writeNumber fits text
-alarm-text t limit true e = rw e
-alarm-text t limit false e = rw e
+-- the number text of a true alarm state
+alarm-text : (t : List ℤ) (state limit : ℕ) (b : Bool) → leZ (entry t limit) (entry t table.M1) ≡ b → IsTrue t state limit
+    → written width 0 (table.answered t state) ≡ accepted (stateText b)
+unfolding table.answered written writeNumber fits text
+alarm-text t state limit true e s = rw (s .on e)
+alarm-text t state limit false e s = rw (s .off e)
 
-pub alarms-polled : (structure time : ℕ) (t : List ℤ) → OfAlarms structure time t
+pub alarms-polled : (structure time : ℕ) (t : List ℤ) → goodTable t ≡ true → OfAlarms structure time t
 unfolding itemSent
-alarms-polled structure time t = record {
-  polledAA = rw (answered-AA t, alarm-text t table.A1 _ refl);
-  polledAB = rw (answered-AB t, alarm-text t table.A2 _ refl);
-}
+alarms-polled structure time t g =
+    let states = good-alarms t g in
+    record {
+      polledAA = rw (alarm-text t table.AA table.A1 _ refl (states .alarm1));
+      polledAB = rw (alarm-text t table.AB table.A2 _ refl (states .alarm2));
+    }

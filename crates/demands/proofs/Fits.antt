@@ -11,7 +11,7 @@ use Rattle.numbers.specs.Numbers.{none}
 use Rattle.numbers.proofs.Tests.{both, chosen}
 use Rattle.items.specs.ItemList.{Item, items, itemAt, inRange}
 use Rattle.items.proofs.Lists.{passes, passes-at}
-use Rattle.table.specs.Table.{goodTable, entry, M1, AA, AB, A1, A2, alarm, answered}
+use Rattle.table.specs.Table.{entry, goodTable, answered}
 use Rattle.table.proofs.Laws.{good-entry}
 use Rattle.text.specs.Numbers.{width}
 use Rattle.text.specs.Writing.{fits}
@@ -28,20 +28,11 @@ module _ (i : ℕ) (h : i < items) where
   line-fits : (f : Item → ℤ) → passes (λ (k : ℕ). fits width (itemAt k .decimals) (f (itemAt k))) items ≡ true → Fits (f (itemAt i))
   line-fits f e = passes-at (λ (k : ℕ). fits width (itemAt k .decimals) (f (itemAt k))) items i e h
 
-  state-fits : (t : List ℤ) (limit : ℕ) → Fits (alarm t limit)
-  unfolding alarm fits
-  state-fits t limit = chosen Fits (leZ (entry t limit) (entry t M1)) (λ _. line-fits (λ x. pos 1) refl) (λ _. line-fits (λ x. pos 0) refl)
-
-  entry-fits : (t : List ℤ) → goodTable t ≡ true → Fits (entry t i)
-  unfolding inRange fits
-  entry-fits t g =
+  answered-fits : (t : List ℤ) → goodTable t ≡ true → Fits (answered t i)
+  unfolding inRange fits answered
+  answered-fits t g =
       let r = both (leZ (itemAt i .low) (entry t i)) (leZ (entry t i) (itemAt i .high)) (good-entry t i g h) in
       between-fits width (itemAt i .decimals) (itemAt i .low) (itemAt i .high) (entry t i) (r .0) (r .1) (line-fits (λ x. x .low) refl) (line-fits (λ x. x .high) refl)
-
-  answered-fits : (t : List ℤ) → goodTable t ≡ true → Fits (answered t i)
-  unfolding answered
-  answered-fits t g =
-      chosen Fits (eqb i AA) (λ _. state-fits t A1) (λ _. chosen Fits (eqb i AB) (λ _. state-fits t A2) (λ _. entry-fits t g))
 
   pub always-sent : (structure time : ℕ) (t : List ℤ) → goodTable t ≡ true → itemSent structure time t i .number ≡ none
   unfolding itemSent

@@ -17,7 +17,7 @@ use Rattle.items.specs.declared.Found.the-variants.{At, Nothing}
 use Rattle.items.specs.ItemList.{items, itemList, found, inRange}
 use Rattle.items.proofs.Lists.{passes-at}
 use Rattle.items.proofs.Lookup.{found-place}
-use Rattle.table.specs.Table.{allInRange, tableFault, goodTable, startValues}
+use Rattle.table.specs.Table.{wrongLength, badEntry, alarm, alarmsAgree, allInRange, tableFault, goodTable, startValues}
 use Rattle.line.specs.Line.{keeps, heard}
 use Rattle.text.specs.Reading.{readNumber, readValue}
 use Rattle.phases.specs.Decision.{decided}
@@ -64,12 +64,11 @@ tested ms false n e = λ _. e
 
 table-fault : (t : List ℤ) → IfMet byteFaults (tableFault t)
 unfolding tableFault
-table-fault t = by (eqb (length t) items) (allInRange itemList t) refl refl
-  where
-    by : (a b : Bool) → eqb (length t) items ≡ a → allInRange itemList t ≡ b → IfMet byteFaults (tableFault t)
-    by true true p q = rw (p, q) (none-met byteFaults)
-    by true false p q = rw (p, q) (λ _. refl)
-    by false b p q = rw p (λ _. refl)
+table-fault t =
+    let alarms = unless (alarmsAgree t) badEntry ∷ [] in
+    each _ (unless (allInRange itemList t) badEntry ∷ alarms) (IfMet byteFaults) (tested byteFaults (eqb (length t) items) wrongLength refl)
+    (each _ alarms (IfMet byteFaults) (tested byteFaults (allInRange itemList t) badEntry refl)
+    (each _ [] (IfMet byteFaults) (tested byteFaults (alarmsAgree t) badEntry refl) (none-met byteFaults)))
 
 step-fault : (ms : List ℕ) → oneOf ms shortBuffer ≡ true → oneOf ms badSetting ≡ true → oneOf ms badState ≡ true
     → (l : Link) (room : ℕ) (settings : Bool) → IfMet ms (stepFault l room settings)
@@ -125,5 +124,5 @@ module _ (l : Link) (t : List ℤ) (good : goodTable t ≡ true) (structure time
 -- ---- each number is given: the definitions compute
 
 pub numbers-given : OfNumbers
-unfolding found inRange tableFault startValues keeps heard readNumber readValue decided blockItem blockValue blockNumber used inLimits performed stepFault byteFault received idleFault idled byteExamples idleExamples
+unfolding found inRange alarm tableFault startValues keeps heard readNumber readValue decided blockItem blockValue blockNumber used inLimits performed stepFault byteFault received idleFault idled byteExamples idleExamples
 numbers-given = record { byBytes = refl; byIdles = refl }

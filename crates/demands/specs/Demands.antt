@@ -9,7 +9,7 @@ use lib.Seq.{sets}
 use lib.Signed.{leZ}
 use Rattle.numbers.specs.Numbers.{none}
 use Rattle.items.specs.ItemList.{itemAt, found, inRange}
-use Rattle.table.specs.Table.{goodTable, entry, M1, AA, AB, A1, A2}
+use Rattle.table.specs.Table.{entry, M1, AA, AB, A1, A2, isAlarmState, goodTable, AlarmsTrue}
 use Rattle.line.specs.Line.{ENQ, within, printable, keeps, sent, heard}
 use Rattle.phases.specs.Phases.{addressed, waiting}
 use Rattle.rkc.specs.declared.Stepped.{Stepped}
@@ -51,11 +51,13 @@ pub record OfByte (call : ByteCall) : Type 0 where
   pub alwaysRoom : byteFault call ≡ none → received call .step .number ≢ noRoom
   -- any number but 0 leaves the table
   pub numberLeavesTable : received call .step .number ≢ none → received call .table ≡ call .table
-  -- each entry is unchanged or in its range; a read-only item keeps its number; a good table stays good
+  -- each entry is unchanged or in its range; a read-only item keeps its number, the alarm states apart; a good table stays good, and
+  -- the alarm states, which change only to stay true, are true
   pub staysOrInRange : (j : ℕ)
       → (entry (received call .table) j ≡ entry (call .table) j) ⊎ (inRange j (entry (received call .table) j) ≡ true)
-  pub readOnlyStays : (j : ℕ) → itemAt j .writable ≡ false → entry (received call .table) j ≡ entry (call .table) j
+  pub readOnlyStays : (j : ℕ) → itemAt j .writable ≡ false → isAlarmState j ≡ false → entry (received call .table) j ≡ entry (call .table) j
   pub goodStaysGood : goodTable (call .table) ≡ true → goodTable (received call .table) ≡ true
+  pub alarmsStayTrue : goodTable (call .table) ≡ true → AlarmsTrue (received call .table)
   -- the state handed back is within its limits, and the next call meets no fault either
   pub staysInLimits : byteFault call ≡ none → inLimits (received call .step .link) ≡ true
   pub runsOn : byteFault call ≡ none → (time byte : ℕ) → byteFault (nextByte call time byte) ≡ none
@@ -148,7 +150,7 @@ abbrev pub stateSent : ℕ → ℕ → ℕ → Bool → Step
 stateSent structure time i on =
     record { link = waitingOn (i + 1) time; number = none; reply = map (sent structure) (dataReply i (stateText on)) }
 
--- a poll of AA sends 1 exactly when M1 is at least A1, of AB when M1 is at least A2
+-- a poll of AA in a good table sends 1 exactly when M1 is at least A1, of AB when M1 is at least A2
 pub record OfAlarms (structure time : ℕ) (t : List ℤ) : Type 0 where
   pub polledAA : itemSent structure time t AA ≡ stateSent structure time AA (leZ (entry t A1) (entry t M1))
   pub polledAB : itemSent structure time t AB ≡ stateSent structure time AB (leZ (entry t A2) (entry t M1))

@@ -37,8 +37,8 @@ line a b r k d l h s = record { first = a; second = b; register = r; writable = 
 abbrev pub itemList : List Item
 itemList =
     line 0x4D 0x31 0x0000 read 1 (minus 1999) (pos 9999) (pos 0)  -- M1 measured value
-    ∷ line 0x41 0x41 0x0001 read 0 (pos 0) (pos 0) (pos 0)  -- AA alarm 1 state
-    ∷ line 0x41 0x42 0x0002 read 0 (pos 0) (pos 0) (pos 0)  -- AB alarm 2 state
+    ∷ line 0x41 0x41 0x0001 read 0 (pos 0) (pos 1) (pos 0)  -- AA alarm 1 state
+    ∷ line 0x41 0x42 0x0002 read 0 (pos 0) (pos 1) (pos 0)  -- AB alarm 2 state
     ∷ line 0x42 0x31 0x0003 read 0 (pos 0) (pos 1) (pos 0)  -- B1 burnout
     ∷ line 0x45 0x52 0x0004 read 0 (pos 0) (pos 255) (pos 0)  -- ER error code
     ∷ line 0x53 0x31 0x000B write 1 (minus 1999) (pos 9999) (pos 0)  -- S1 set value

@@ -15,7 +15,7 @@ use Rattle.numbers.proofs.Tests.{contrary, both, chosen}
 use Rattle.numbers.proofs.Order.{test-held, is-refused, is-done, either-way}
 use Rattle.items.specs.ItemList.{items, listed, itemAt}
 use Rattle.items.proofs.Lookup.{listed-place}
-use Rattle.table.specs.Table.{startValues, entry}
+use Rattle.table.specs.Table.{entry, isAlarmState, startValues}
 use Rattle.writes.specs.declared.Given.{Given}
 use Rattle.writes.specs.declared.Given.the-variants.{Nothing}
 use Rattle.writes.specs.Writes.{isValue, over}
@@ -50,14 +50,14 @@ module _ (q : Question) (c : List ℕ) where
 
 -- ---- a well-formed capture
 
--- full playback leaves in each entry what the last of the frames writes to its item
+-- full playback leaves in each entry but the alarm states what the last of the frames writes to its item
 played-entry : (t : List ℤ) (address : ℕ) (c : List ℕ) → length t ≡ items → isAddress address ≡ true → captureFault c ≡ none → (i : ℕ)
-    → i < items → entry (played t address c) i ≡ over (entry startValues i) (lastWrite address (frames c) i)
-played-entry t address c l a fine i h =
+    → isAlarmState i ≡ false → i < items → entry (played t address c) i ≡ over (entry startValues i) (lastWrite address (frames c) i)
+played-entry t address c l a fine i s h =
     let buffer = replicate {A = ℕ} leastBuffer 0 in
     let room : leastBuffer ≤ length buffer = omega (arith, length-replicate {A = ℕ} leastBuffer 0) in
-    ap (λ (s : List ℤ). entry s i) (playback-claimed t address c .anyBuffer (play-capture t address c l a ∙ fine) buffer room)
-    ∙ handed-writes (frames c) (record { table = startValues; buffer = buffer; address = address }) (start-fine address buffer a room) i h
+    ap (λ (u : List ℤ). entry u i) (playback-claimed t address c .anyBuffer (play-capture t address c l a ∙ fine) buffer room)
+    ∙ handed-writes (frames c) (record { table = startValues; buffer = buffer; address = address }) (start-fine address buffer a room) i s h
 
 module _ (q : Question) (c : List ℕ) (a : isAddress (q .address) ≡ true) (i : listed (q .item) ≡ true) (fine : captureFault c ≡ none) where
   abbrev last : Given
@@ -86,7 +86,7 @@ module _ (q : Question) (c : List ℕ) (a : isAddress (q .address) ≡ true) (i 
         answered = sym (answered .given);
         lastOfFrames = sym (answered .written);
         readOfFrames = sym (answered .read);
-        inPlayback = λ t l. rw (← (answered .written)) (played-entry t (q .address) c l a fine (q .item - 1) (listed-place (q .item) i .1));
+        inPlayback = λ s t l. rw (← (answered .written)) (played-entry t (q .address) c l a fine (q .item - 1) s (listed-place (q .item) i .1));
       }
 
 -- ---- any capture

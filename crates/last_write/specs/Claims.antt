@@ -7,7 +7,7 @@ use lib.IntN.{ℤ}
 use lib.ListN.{length, take, drop}
 use Rattle.numbers.specs.Numbers.{none}
 use Rattle.items.specs.ItemList.{items, listed, itemAt}
-use Rattle.table.specs.Table.{startValues, entry}
+use Rattle.table.specs.Table.{entry, isAlarmState, startValues}
 use Rattle.writes.specs.declared.Given.the-variants.{Nothing}
 use Rattle.writes.specs.Writes.{isValue, over}
 use Rattle.call.specs.Call.{isAddress}
@@ -33,8 +33,8 @@ pub record OfWellFormed (q : Question) (c : List ℕ) : Type 0 where
   -- the answer is what full playback finds in its last write to the item, and the records read are that frame's distance from the end
   pub lastOfFrames : lastWritten q c ≡ lastWrite (q .address) (frames c) (q .item - 1)
   pub readOfFrames : recordsRead q c ≡ framesRead (q .address) (frames c) (q .item - 1)
-  -- the table of playback holds that value at the end, and the start value where the item was never written
-  pub inPlayback : (t : List ℤ) → length t ≡ items
+  -- the table of playback holds that value at the end, and the start value where the item was never written, unless it is an alarm state
+  pub inPlayback : isAlarmState (q .item - 1) ≡ false → (t : List ℤ) → length t ≡ items
       → entry (played t (q .address) c) (q .item - 1) ≡ over (entry startValues (q .item - 1)) (lastWritten q c)
 
 -- of any capture

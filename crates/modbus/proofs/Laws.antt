@@ -15,7 +15,7 @@ use Rattle.numbers.specs.Numbers.{none, unless, unlessMet}
 use Rattle.numbers.proofs.Tests.{chosen}
 use Rattle.numbers.proofs.Order.{either-way}
 use Rattle.items.specs.ItemList.{itemAt, inRange}
-use Rattle.table.specs.Table.{goodTable, entry}
+use Rattle.table.specs.Table.{entry, isAlarmState, goodTable}
 use Rattle.registers.specs.Faults.{firstWord, secondWord, readFault, countPlace, dataPlace, loopbackFault}
 use Rattle.registers.proofs.Faults.{Numbered, read-numbered, loopback-numbered, read-accepted, loopback-accepted}
 use Rattle.writes.specs.Writes.{Write, writable, inside, each, storedAll}
@@ -114,10 +114,10 @@ module _ (t : List ℤ) (address : ℕ) (body : List ℕ) where
       (λ f q h. absurd (h refl))
       (λ f q h. absurd (h refl))
 
-  -- no message changes the entry of a read-only item
-  pub read-only-stays : (j : ℕ) → itemAt j .writable ≡ false → entry (acted t address body .table) j ≡ entry t j
-  read-only-stays j r =
-      every-table (λ (s : List ℤ). entry s j ≡ entry t j) t address body refl (λ ws w i. all-read-only t ws j w r)
+  -- no message changes the entry of a read-only item, the alarm states apart
+  pub read-only-stays : (j : ℕ) → itemAt j .writable ≡ false → isAlarmState j ≡ false → entry (acted t address body .table) j ≡ entry t j
+  read-only-stays j r o =
+      every-table (λ (s : List ℤ). entry s j ≡ entry t j) t address body refl (λ ws w i. all-read-only t ws j w r o)
 
   -- whatever the table, each entry is left as it was or in its range
   pub stays-or-in-range : (j : ℕ)

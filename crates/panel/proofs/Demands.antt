@@ -64,7 +64,7 @@ module _ (state : List ℕ) (bytes : Bytes state) (call : ByteCall) {r : ℕ} {h
         otherNumbers = λ z. number-in s byteNumbers refl (d .otherNumbers z);
         nextReads = λ z. ap unpacked (holds-state s byteNumbers refl (d .otherNumbers z)) ∙ byte-carries state bytes call on h;
         staysOrInRange = λ j. rw (p .left) (d .staysOrInRange j);
-        readOnlyStays = λ j w. ap (λ (t : List ℤ). entry t j) (p .left) ∙ d .readOnlyStays j w;
+        readOnlyStays = λ j w o. ap (λ (t : List ℤ). entry t j) (p .left) ∙ d .readOnlyStays j w o;
       }
 
 module _ (state : List ℕ) (bytes : Bytes state) (call : IdleCall) {r : ℕ} {held after : List ℕ} (on : call .link ≡ unpacked state)

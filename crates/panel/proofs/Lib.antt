@@ -2,4 +2,5 @@ pub mod Faults
 pub mod Holding
 pub mod Frames
 pub mod Demands
+pub mod Alarms
 pub mod Single

@@ -8,7 +8,7 @@ use Prim.Native.Nat.{ℕ, _%_}
 use lib.IntN.{ℤ}
 use Rattle.numbers.specs.Numbers.{none}
 use Rattle.items.specs.ItemList.{itemAt, inRange}
-use Rattle.table.specs.Table.{entry}
+use Rattle.table.specs.Table.{entry, isAlarmState}
 use Rattle.rkc.specs.Outcome.{ByteCall, byteFault, received, IdleCall, idleFault, idled}
 use Rattle.demands.specs.Numbers.{oneOf, byteFaults, byteNumbers, idleFaults, idleNumbers}
 use Rattle.state.specs.State.{unpacked}
@@ -27,9 +27,10 @@ pub record OfVbByte (state : List ℕ) (call : ByteCall) (r : ℕ) (held after :
   pub otherNumbers : byteFault call ≡ none → oneOf byteNumbers (numberIn r) ≡ true
   -- without a fault the next call finds in the bytes the very state that this one came to
   pub nextReads : byteFault call ≡ none → unpacked held ≡ received call .step .link
-  -- whatever the table, each entry stays as it was or is in its range, and that of a read-only item stays as it was
+  -- whatever the table, each entry stays as it was or is in its range, and that of a read-only item stays as it was, the alarm states
+  -- apart; what those are, Alarms.antt says
   pub staysOrInRange : (j : ℕ) → (entry left j ≡ entry (call .table) j) ⊎ (inRange j (entry left j) ≡ true)
-  pub readOnlyStays : (j : ℕ) → itemAt j .writable ≡ false → entry left j ≡ entry (call .table) j
+  pub readOnlyStays : (j : ℕ) → itemAt j .writable ≡ false → isAlarmState j ≡ false → entry left j ≡ entry (call .table) j
 
 -- what is claimed of `vb_idle`, which has no table: its numbers are 3, 4 and 5 for a fault, else 0 or 44
 pub record OfVbIdle (state : List ℕ) (call : IdleCall) (r : ℕ) (held after : List ℕ) : Type 0 where

@@ -1,6 +1,6 @@
 -- What is claimed in specs/Claims.antt of every frame and of every playback.
 -- Assumes nothing.
-use mathlib.Core.Path.{_≡_, refl, sym, ap, _∙_}
+use mathlib.Core.Path.{_≡_, refl, sym, ap, ap₂, _∙_}
 use mathlib.Core.Bool.{Bool, true, false}
 use mathlib.Core.List.{List, [], _∷_}
 use Prim.Native.Nat.{ℕ}
@@ -11,8 +11,9 @@ use Rattle.numbers.specs.Numbers.{none}
 use Rattle.numbers.proofs.Tests.{both}
 use Rattle.numbers.proofs.Order.{is-refused, is-done}
 use Rattle.items.specs.ItemList.{itemAt}
-use Rattle.table.specs.Table.{goodTable, tableFault, startValues, entry}
-use Rattle.table.proofs.Laws.{good-length}
+use Rattle.table.specs.Table.{entry, isAlarmState, goodTable, startValues}
+use Rattle.table.proofs.Laws.{good-alarms, good-same}
+use Rattle.writes.specs.Writes.{over}
 use Rattle.crc.specs.Crc.{bodyOf}
 use Rattle.modbus.specs.Outcome.{Outcome}
 use Rattle.settings.specs.Settings.{acceptsWrite, ToWrite}
@@ -24,10 +25,10 @@ use Rattle.call.proofs.Faults.{is-fine}
 use Rattle.rtu.proofs.Demands.{frame-read-only}
 use Rattle.capture.specs.Format.{frames}
 use Rattle.playback.specs.Playback.{after, handedOver, atStart, playNumber, played}
-use Rattle.playback.specs.Written.{acceptsFrame}
+use Rattle.playback.specs.Written.{acceptsFrame, lastWrite}
 use Rattle.playback.specs.Claims.{OfFrame, OfPlayback}
 use Rattle.playback.proofs.Frames.{not-accepted, by-message, frame-writes}
-use Rattle.playback.proofs.Frames.{start-fine, handed-fine, handed-writes, last-writes}
+use Rattle.playback.proofs.Frames.{start-fine, handed-writes, handed-good}
 use Rattle.playback.proofs.Played.{address-right, start-at}
 
 -- ---- a frame
@@ -59,17 +60,12 @@ frame-claimed call frame =
 
 -- ---- playback
 
--- frames leave the entries of read-only items
-handed-read-only : (fs : List (List ℕ)) (call : Call) (i : ℕ) → itemAt i .writable ≡ false
+-- frames leave the entries of read-only items, the alarm states apart
+handed-read-only : (fs : List (List ℕ)) (call : Call) (i : ℕ) → itemAt i .writable ≡ false → isAlarmState i ≡ false
     → entry (handedOver call fs .table) i ≡ entry (call .table) i
 unfolding after
-handed-read-only [] call i r = refl
-handed-read-only (f ∷ fs) call i r = handed-read-only fs (after call f) i r ∙ frame-read-only call f i r
-
--- and a good table
-handed-good : (fs : List (List ℕ)) (call : Call) → callFault call ≡ none → goodTable (handedOver call fs .table) ≡ true
-handed-good fs call fine =
-    eq-eqb (tableFault (handedOver call fs .table)) none (is-fine (handedOver call fs) (handed-fine fs call fine) .table)
+handed-read-only [] call i r s = refl
+handed-read-only (f ∷ fs) call i r s = handed-read-only fs (after call f) i r s ∙ frame-read-only call f i r s
 
 module _ (t : List ℤ) (address : ℕ) (c : List ℕ) where
   abbrev left : List ℤ
@@ -83,6 +79,19 @@ module _ (t : List ℤ) (address : ℕ) (c : List ℕ) where
   unfolding played
   refused = is-refused (playNumber t address c) (λ n. t) left
 
+  played-good : playNumber t address c ≡ none → goodTable (played t address c) ≡ true
+  played-good e = rw (with-none e) (handed-good (frames c) (atStart address) (start-at address (address-right t address c e)))
+
+-- frames leave the same of the same table, whatever the buffer
+any-buffer : (fs : List (List ℕ)) (one other : Call) → callFault one ≡ none → callFault other ≡ none → one .table ≡ other .table
+    → one .address ≡ other .address → handedOver one fs .table ≡ handedOver other fs .table
+any-buffer fs one other p q t a =
+    good-same (handedOver other fs .table) (handedOver one fs .table) (handed-good fs other q) (handed-good fs one p)
+    (λ i s h.
+    handed-writes fs one p i s h
+    ∙ ap₂ (λ (u : List ℤ) (n : ℕ). over (entry u i) (lastWrite n fs i)) t a
+    ∙ sym (handed-writes fs other q i s h))
+
 pub playback-claimed : (t : List ℤ) (address : ℕ) (c : List ℕ) → OfPlayback t address c
 unfolding atStart
 playback-claimed t address c =
@@ -91,11 +100,9 @@ playback-claimed t address c =
       anyBuffer = λ e buffer room.
           let right = address-right t address c e in
           with-none t address c e
-          ∙ last-writes (frames c) (record { table = startValues; buffer = buffer; address = address }) (start-fine address buffer right room)
-          (record {
-            entries = good-length (left t address c) (handed-good (frames c) (atStart address) (start-at address right));
-            each = handed-writes (frames c) (atStart address) (start-at address right);
-          });
-      good = λ e. rw (with-none t address c e) (handed-good (frames c) (atStart address) (start-at address (address-right t address c e)));
-      readOnlyAtStart = λ e i r. rw (with-none t address c e) (handed-read-only (frames c) (atStart address) i r);
+          ∙ any-buffer (frames c) (atStart address) (record { table = startValues; buffer = buffer; address = address }) (start-at address right)
+          (start-fine address buffer right room) refl refl;
+      good = played-good t address c;
+      alarmsTrue = λ e. good-alarms (played t address c) (played-good t address c e);
+      readOnlyAtStart = λ e i r s. rw (with-none t address c e) (handed-read-only (frames c) (atStart address) i r s);
     }

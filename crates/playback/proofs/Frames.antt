@@ -14,8 +14,8 @@ use lib.Seq.{length-sets, ext-getD}
 use Rattle.numbers.specs.Numbers.{none, leastBuffer}
 use Rattle.numbers.proofs.Tests.{both}
 use Rattle.items.specs.ItemList.{items, itemAt}
-use Rattle.table.specs.Table.{goodTable, tableFault, startValues, entry}
-use Rattle.table.proofs.Laws.{good-start, good-length}
+use Rattle.table.specs.Table.{entry, isAlarmState, alarmsKept, goodTable, tableFault, startValues}
+use Rattle.table.proofs.Laws.{good-start, good-length, good-others}
 use Rattle.crc.specs.Crc.{bodyOf}
 use Rattle.writes.specs.declared.Given.{Given}
 use Rattle.writes.specs.declared.Given.the-variants.{Nothing}
@@ -95,11 +95,11 @@ module _ (call : Call) (fine : callFault call ≡ none) (frame : List ℕ) where
         address = is-fine call fine .address;
       })
 
-  -- each entry becomes what the frame writes to its item, and stays where it writes nothing
-  pub frame-writes : (i : ℕ) → i < items
+  -- each entry but the alarm states becomes what the frame writes to its item, and stays where it writes nothing
+  pub frame-writes : (i : ℕ) → isAlarmState i ≡ false → i < items
       → entry (after call frame .table) i ≡ over (entry (call .table) i) (wrote (call .address) frame i)
   unfolding after
-  frame-writes i h = by (eqb (frameFault frame) none) (acceptsWrite (call .address) (bodyOf frame)) refl refl
+  frame-writes i s h = by (eqb (frameFault frame) none) (acceptsWrite (call .address) (bodyOf frame)) refl refl
     where
       entry-of : Outcome → ℤ
       entry-of o = entry (o .table) i
@@ -119,18 +119,18 @@ module _ (call : Call) (fine : callFault call ≡ none) (frame : List ℕ) where
           let right = eqb-true (frameFault frame) none r in
           ap entry-of (acted-answered call frame fine right)
           ∙ ap (λ (t : List ℤ). entry t i) (accepted-stores (call .table) (call .address) (bodyOf frame) a)
-          ∙ all-given (call .table) (writesOf (bodyOf frame)) i (omega (arith, good-length (call .table) good))
+          ∙ all-given (call .table) (writesOf (bodyOf frame)) i s (omega (arith, good-length (call .table) good))
           ∙ ap (over (entry (call .table) i)) (sym (accepted-writes (call .address) frame i (by-message (call .address) frame right ∙ a)))
 
 -- ---- frames one after the other
 
-pub handed-writes : (fs : List (List ℕ)) (call : Call) → callFault call ≡ none → (i : ℕ) → i < items
+pub handed-writes : (fs : List (List ℕ)) (call : Call) → callFault call ≡ none → (i : ℕ) → isAlarmState i ≡ false → i < items
     → entry (handedOver call fs .table) i ≡ over (entry (call .table) i) (lastWrite (call .address) fs i)
 unfolding after
-handed-writes [] call fine i h = refl
-handed-writes (f ∷ fs) call fine i h =
-    handed-writes fs (after call f) (after-fine call fine f) i h
-    ∙ ap (λ (v : ℤ). over v (lastWrite (call .address) fs i)) (frame-writes call fine f i h)
+handed-writes [] call fine i s h = refl
+handed-writes (f ∷ fs) call fine i s h =
+    handed-writes fs (after call f) (after-fine call fine f) i s h
+    ∙ ap (λ (v : ℤ). over v (lastWrite (call .address) fs i)) (frame-writes call fine f i s h)
     ∙ over-later (entry (call .table) i) (lastWrite (call .address) fs i) (wrote (call .address) f i)
 
 pub handed-fine : (fs : List (List ℕ)) (call : Call) → callFault call ≡ none → callFault (handedOver call fs) ≡ none
@@ -144,14 +144,17 @@ start-fine address buffer a room =
     no-fault (record { table = startValues; buffer = buffer; address = address })
     (record { table = eqb-true (tableFault startValues) none good-start; room = room; address = a })
 
--- a table is the one that frames leave where each entry has the last value that they write to its item
+-- so they leave a good table
+pub handed-good : (fs : List (List ℕ)) (call : Call) → callFault call ≡ none → goodTable (handedOver call fs .table) ≡ true
+handed-good fs call fine =
+    eq-eqb (tableFault (handedOver call fs .table)) none (is-fine (handedOver call fs) (handed-fine fs call fine) .table)
+
+-- which is the one where each entry has the last value that they write to its item, and then the alarm states are made true
 pub last-writes : (fs : List (List ℕ)) (call : Call) {left : List ℤ} → callFault call ≡ none
-    → LastWrites (call .address) fs (call .table) left → left ≡ handedOver call fs .table
+    → LastWrites (call .address) fs (call .table) left → alarmsKept left ≡ handedOver call fs .table
 last-writes fs call {left} fine w =
-    let good = eq-eqb (tableFault (handedOver call fs .table)) none (is-fine (handedOver call fs) (handed-fine fs call fine) .table) in
-    let same = good-length (handedOver call fs .table) good in
-    ext-getD (pos 0) left (handedOver call fs .table) (w .entries ∙ sym same)
-    (λ i h. let inside : i < items = omega (arith, w .entries) in w .each i inside ∙ sym (handed-writes fs call fine i inside))
+    good-others (handedOver call fs .table) left (handed-good fs call fine) (w .entries)
+    (λ i s h. w .each i h ∙ sym (handed-writes fs call fine i s h))
 
 -- ---- one frame more at the end
 

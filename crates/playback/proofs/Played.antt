@@ -13,7 +13,7 @@ use Rattle.numbers.specs.Numbers.{none, leastBuffer, badSetting}
 use Rattle.numbers.specs.Promise.{Lent}
 use Rattle.numbers.proofs.Order.{last-met, passed, is-refused, is-done}
 use Rattle.items.specs.ItemList.{items}
-use Rattle.table.specs.Table.{wrongLength, startValues, startNumber, startTable}
+use Rattle.table.specs.Table.{wrongLength, alarmsKept, startValues, startNumber, startTable}
 use Rattle.table.proofs.Laws.{good-start, good-length}
 use Rattle.call.specs.Call.{isAddress, callFault}
 use Rattle.capture.specs.Format.{captureFault, frames}
@@ -67,14 +67,16 @@ module _ (t : List ℤ) (address : ℕ) (c : List ℕ) {number : ℕ} where
   not-played e h =
       record { given = e; left = sym (is-refused (playNumber t address c) (λ n. t) (handedOver (atStart address) (frames c) .table) (λ z. h (e ∙ z))) }
 
-  pub is-played : {left : List ℤ} → number ≡ playNumber t address c → number ≡ none → LastWrites address (frames c) startValues left
+  pub is-played : {settled left : List ℤ} → number ≡ playNumber t address c → number ≡ none
+      → LastWrites address (frames c) startValues settled → left ≡ alarmsKept settled
       → Lent (playNumber t address c) (played t address c) none left
   unfolding played atStart
-  is-played e z w =
+  is-played e z w k =
       let met = sym e ∙ z in
       record {
         given = sym met;
         left =
-            last-writes (frames c) (atStart address) (start-at address (address-right t address c met)) w
+            k
+            ∙ last-writes (frames c) (atStart address) (start-at address (address-right t address c met)) w
             ∙ sym (is-done (playNumber t address c) (λ n. t) (handedOver (atStart address) (frames c) .table) met);
       }

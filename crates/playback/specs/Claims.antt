@@ -9,7 +9,7 @@ use lib.IntN.{ℤ}
 use lib.ListN.{length}
 use Rattle.numbers.specs.Numbers.{none, leastBuffer}
 use Rattle.items.specs.ItemList.{items, itemAt}
-use Rattle.table.specs.Table.{goodTable, startValues, entry}
+use Rattle.table.specs.Table.{entry, isAlarmState, goodTable, startValues, AlarmsTrue}
 use Rattle.crc.specs.Crc.{bodyOf}
 use Rattle.writes.specs.Writes.{over}
 use Rattle.settings.specs.Settings.{ToWrite}
@@ -24,8 +24,8 @@ pub record OfFrame (call : Call) (frame : List ℕ) : Type 0 where
   -- only a message of 06H or 10H is accepted as a write, and such a one exactly when it is given no number
   pub onlyWrites : acceptsFrame (call .address) frame ≡ true → ToWrite (bodyOf frame)
   pub byNumber : callFault call ≡ none → ToWrite (bodyOf frame) → acceptsFrame (call .address) frame ≡ eqb (actedOn call frame .number) none
-  -- each entry becomes what the frame writes to its item, and stays where it writes nothing
-  pub entryWritten : callFault call ≡ none → (i : ℕ) → i < items
+  -- each entry but the alarm states becomes what the frame writes to its item, and stays where it writes nothing
+  pub entryWritten : callFault call ≡ none → (i : ℕ) → isAlarmState i ≡ false → i < items
       → entry (actedOn call frame .table) i ≡ over (entry (call .table) i) (wrote (call .address) frame i)
 
 pub record OfPlayback (t : List ℤ) (address : ℕ) (c : List ℕ) : Type 0 where
@@ -34,7 +34,8 @@ pub record OfPlayback (t : List ℤ) (address : ℕ) (c : List ℕ) : Type 0 whe
   -- with none it is what a device ends with that begins at the start values and has any buffer with room for its replies
   pub anyBuffer : playNumber t address c ≡ none → (buffer : List ℕ) → leastBuffer ≤ length buffer
       → played t address c ≡ handedOver (record { table = startValues; buffer = buffer; address = address }) (frames c) .table
-  -- whatever was lent, it is then a good table, with the start values of the read-only items
+  -- whatever was lent, it is then a good table, with true alarm states, and with the start values of the other read-only items
   pub good : playNumber t address c ≡ none → goodTable (played t address c) ≡ true
-  pub readOnlyAtStart : playNumber t address c ≡ none → (i : ℕ) → itemAt i .writable ≡ false
+  pub alarmsTrue : playNumber t address c ≡ none → AlarmsTrue (played t address c)
+  pub readOnlyAtStart : playNumber t address c ≡ none → (i : ℕ) → itemAt i .writable ≡ false → isAlarmState i ≡ false
       → entry (played t address c) i ≡ entry startValues i

@@ -1,6 +1,6 @@
 -- How the code finds that table by one walk back: whether a frame is accepted does not depend on the table, so each item ends with the
--- last value that a frame writes to it, and the first that is met on the way back settles it. That this is the table of Playback.antt is
--- proved.
+-- last value that a frame writes to it, and the first that is met on the way back settles it. The alarm states, which no frame writes, are
+-- made true at the end. That this is the table of Playback.antt is proved.
 use Prim.Native.Nat.{ℕ, _<_}
 use mathlib.Core.Path.{_≡_}
 use mathlib.Core.Bool.{Bool, false, cond}

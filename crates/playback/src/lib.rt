@@ -135,5 +135,6 @@ pub fn play(table: &mut [i32], address: u8, capture: &[u8]) -> u8
     }
     table::start(table);
     settle_all(table, address, capture);
+    table::keep_alarms(table);
     NONE
 }

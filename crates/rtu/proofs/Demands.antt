@@ -9,7 +9,7 @@ use native.Mathlib.Omega.{arith}
 use lib.IntN.{ℤ}
 use Rattle.numbers.specs.Numbers.{none}
 use Rattle.items.specs.ItemList.{itemAt}
-use Rattle.table.specs.Table.{goodTable, entry}
+use Rattle.table.specs.Table.{entry, isAlarmState, goodTable}
 use Rattle.crc.specs.Crc.{framed, bodyOf}
 use Rattle.crc.specs.Damage.{flip}
 use Rattle.crc.proofs.Flip.{flip-length}
@@ -31,7 +31,7 @@ use Rattle.rtu.proofs.Replies.{as-call, acted-refused}
 -- ---- demand 1
 
 module _ (call : Call) (frame : List ℕ) where
-  pub frame-read-only : (j : ℕ) → itemAt j .writable ≡ false → entry (actedOn call frame .table) j ≡ entry (call .table) j
+  pub frame-read-only : (j : ℕ) → itemAt j .writable ≡ false → isAlarmState j ≡ false → entry (actedOn call frame .table) j ≡ entry (call .table) j
   unfolding actedOn
   frame-read-only = call-read-only framed call (frameFault frame) (bodyOf frame)
 

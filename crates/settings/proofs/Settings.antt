@@ -137,11 +137,11 @@ writing-claimed t address body =
     record {
       refusedLeaves = λ h. number-leaves-table t address body h;
       allStored = λ h. written h .stored;
-      entryGiven = λ h i l. ap (λ (s : List ℤ). entry s i) (written h .stored) ∙ all-given t (writesOf body) i l;
-      outsideStays = λ i o.
-          or-none t address body (λ (s : List ℤ). entry s i ≡ entry t i) refl
-          (λ h. ap (λ (s : List ℤ). entry s i) (written h .stored)
-          ∙ outside-stays t (firstWord body) (dataOf body) i (written h .registers) o);
+      entryGiven = λ h i s l. ap (λ (u : List ℤ). entry u i) (written h .stored) ∙ all-given t (writesOf body) i s l;
+      outsideStays = λ i s o.
+          or-none t address body (λ (u : List ℤ). entry u i ≡ entry t i) refl
+          (λ h. ap (λ (u : List ℤ). entry u i) (written h .stored)
+          ∙ outside-stays t (firstWord body) (dataOf body) i s (written h .registers) o);
       readsBack = λ h w b l.
           let start = firstWord body in
           let quantity = length (writesOf body) in

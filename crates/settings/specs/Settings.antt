@@ -1,5 +1,5 @@
--- What a message sets, and what is claimed of it: all of its values are stored or none, no entry outside its span moves, and what was
--- written reads back. The claims are of the rules for a message, so they hold on every line that hands its messages to them.
+-- What a message sets, and what is claimed of it: all of its values are stored or none, no entry outside its span moves but the alarm
+-- states, and what was written reads back. The claims are of the rules for a message, so they hold on every line that hands its messages to them.
 use Prim.Native.Nat.{ℕ, _<_}
 use mathlib.Core.Path.{_≡_}
 use mathlib.Core.Logic.{_≢_, _⊎_}
@@ -10,7 +10,7 @@ use lib.IntN.{ℤ}
 use lib.ListN.{length, getD, drop}
 use Rattle.numbers.specs.Numbers.{none}
 use Rattle.items.specs.ItemList.{items, itemAt}
-use Rattle.table.specs.Table.{entry}
+use Rattle.table.specs.Table.{entry, isAlarmState}
 use Rattle.registers.specs.Register.{highFirst}
 use Rattle.registers.specs.Faults.{rightLength, firstWord, dataPlace, rightCounts}
 use Rattle.writes.specs.Writes.{Write, writes, Outside, allowed, each, storedAll, given, over}
@@ -51,13 +51,13 @@ readingBack body =
 pub record OfWriting (table : List ℤ) (address : ℕ) (body : List ℕ) : Type 0 where
   -- none: a message that is given a number leaves the table
   pub refusedLeaves : acted table address body .number ≢ none → acted table address body .table ≡ table
-  -- all: one that is given none stores all that it asks to write, so each entry becomes what the message gives its item, and stays
-  -- where it gives nothing
+  -- all: one that is given none stores all that it asks to write, so each entry but the alarm states becomes what the message gives its
+  -- item, and stays where it gives nothing
   pub allStored : acted table address body .number ≡ none → acted table address body .table ≡ storedAll table (writesOf body)
-  pub entryGiven : acted table address body .number ≡ none → (i : ℕ) → i < length table
+  pub entryGiven : acted table address body .number ≡ none → (i : ℕ) → isAlarmState i ≡ false → i < length table
       → entry (acted table address body .table) i ≡ over (entry table i) (given (writesOf body) i)
-  -- an entry whose register is outside the span stays
-  pub outsideStays : (i : ℕ) → Outside (firstWord body) (length (writesOf body)) (itemAt i .register)
+  -- an entry whose register is outside the span stays, the alarm states apart
+  pub outsideStays : (i : ℕ) → isAlarmState i ≡ false → Outside (firstWord body) (length (writesOf body)) (itemAt i .register)
       → entry (acted table address body .table) i ≡ entry table i
   -- after a write that is given no number, of bytes and in a table of twelve, a read of the same registers answers the data that was
   -- sent

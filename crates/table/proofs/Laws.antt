@@ -1,41 +1,52 @@
--- Laws of the table: a good one stays good, what a store leaves alone, how a put ends, and when an alarm state is 1.
+-- Laws of the table: what a good one is, that it stays good, what a store leaves alone, and how a put ends.
 -- Assumes nothing.
 use mathlib.Core.Path.{_≡_, refl, sym, ap, _∙_}
-use mathlib.Core.Logic.{_⊎_, inl, inr}
-use mathlib.Core.Bool.{Bool, true, false, cond, _&&_}
+use mathlib.Core.Logic.{_⊎_, inl, inr, ⊎-elim}
+use mathlib.Core.Bool.{Bool, true, false, not}
 use mathlib.Core.List.{List, [], _∷_}
-use Prim.Native.Nat.{ℕ, zero, suc, _-_, _<_, _≤_}
+use Prim.Native.Nat.{ℕ, zero, suc, _-_, _<_}
 use native.Mathlib.Nat.{not-suc-le-zero, le-of-suc-le-suc}
 use native.Mathlib.Omega.{arith}
-use borrow.Author.Tests.{eq-eqb, ne-eqb, eqb-true, eqb-false, leb-true, ltb-true, ltb-false}
-use lib.Dec.{eqb, leb, ltb}
-use lib.IntN.{ℤ, pos, negsuc}
+use borrow.Author.Tests.{eq-eqb, ne-eqb, eqb-true, eqb-false, ltb-true, ltb-false}
+use lib.Dec.{eqb, ltb}
+use lib.IntN.{ℤ, pos}
 use lib.ListN.{getD, set, length, length-set}
-use lib.Seq.{set-out, getD-set-same, getD-set-other}
-use lib.Signed.{leZ}
+use lib.Seq.{set-out, getD-set-same, getD-set-other, ext-getD}
 use Rattle.numbers.specs.Numbers.{none, unless}
 use Rattle.numbers.specs.Promise.{Lent}
 use Rattle.numbers.proofs.Tests.{contrary, both, chosen}
 use Rattle.numbers.proofs.Order.{none-met, test-held}
-use Rattle.items.specs.ItemList.{Item, items, listed, itemList, noItem, itemAt, fromLowToHigh, inRange, found}
-use Rattle.table.specs.Table.{wrongLength, entryOutside, noSuchItem, valueOutside, allInRange, tableFault, goodTable}
-use Rattle.table.specs.Table.{startValues, entry, M1, AA, AB, A1, A2, Places, alarm, answered, stored, putNumber, putTable}
+use Rattle.items.specs.ItemList.{Item, items, listed, itemList, noItem, itemAt, fromLowToHigh, inRange}
+use Rattle.table.specs.Table.{wrongLength, badEntry, noSuchItem, valueOutside, entry, AA, AB, A1, A2, isAlarmState, alarm}
+use Rattle.table.specs.Table.{alarmsAgree, alarmsKept, allInRange, tableFault, goodTable, startValues, stored, mayPut}
+use Rattle.table.specs.Table.{putNumber, putTable, AlarmsTrue}
+use Rattle.table.proofs.Alarms.{alarm-is, agree-true, kept-length, kept-other, kept-agree, others-decide}
 
 -- ---- a good table
 
--- what a good table is: twelve entries, each in its range
-good-parts : (t : List ℤ) → goodTable t ≡ true → (length t ≡ items) × (allInRange itemList t ≡ true)
+-- what a good table is: twelve entries, each in its range, and true alarm states
+record Good (t : List ℤ) : Type 0 where
+  twelve : length t ≡ items
+  inside : allInRange itemList t ≡ true
+  agree : alarmsAgree t ≡ true
+
+good-parts : (t : List ℤ) → goodTable t ≡ true → Good t
 unfolding tableFault
 good-parts t g =
     let long = unless (eqb (length t) items) wrongLength in
-    let inside = unless (allInRange itemList t) entryOutside in
-    let all = none-met long (inside ∷ []) (eqb-true (tableFault t) none g) in
-    let inside-held = test-held _ entryOutside (omega arith) (none-met inside [] (all .1) .0) in
-    (eqb-true _ _ (test-held _ wrongLength (omega arith) (all .0)), inside-held)
+    let ranged = unless (allInRange itemList t) badEntry in
+    let alarms = unless (alarmsAgree t) badEntry in
+    let after-none = none-met long (ranged ∷ alarms ∷ []) (eqb-true (tableFault t) none g) in
+    let after-long = none-met ranged (alarms ∷ []) (after-none .1) in
+    record {
+      twelve = eqb-true _ _ (test-held _ wrongLength (omega arith) (after-none .0));
+      inside = test-held _ badEntry (omega arith) (after-long .0);
+      agree = test-held _ badEntry (omega arith) (none-met alarms [] (after-long .1) .0);
+    }
 
-good-from : (t : List ℤ) → length t ≡ items → allInRange itemList t ≡ true → goodTable t ≡ true
+good-from : {t : List ℤ} → Good t → goodTable t ≡ true
 unfolding tableFault
-good-from t l a = simp (eq-eqb _ _ l, a)
+good-from g = rw (eq-eqb _ _ (g .twelve), g .inside, g .agree)
 
 all-at : (xs : List Item) (t : List ℤ) (i : ℕ) → allInRange xs t ≡ true → i < length xs → i < length t
     → fromLowToHigh (getD xs i noItem) (entry t i) ≡ true
@@ -46,16 +57,35 @@ all-at (x ∷ xs) (v ∷ t) (suc i) a h k =
     all-at xs t i (both (fromLowToHigh x v) (allInRange xs t) a .1) (le-of-suc-le-suc h) (le-of-suc-le-suc k)
 
 pub good-length : (t : List ℤ) → goodTable t ≡ true → length t ≡ items
-good-length t g = good-parts t g .0
+good-length t g = good-parts t g .twelve
 
 -- each entry of a good table is in its range
 pub good-entry : (t : List ℤ) (i : ℕ) → goodTable t ≡ true → i < items → inRange i (entry t i) ≡ true
 unfolding inRange
-good-entry t i g h = let p = good-parts t g in all-at itemList t i (p .1) h (omega (arith, p .0))
+good-entry t i g h = let p = good-parts t g in all-at itemList t i (p .inside) h (omega (arith, p .twelve))
+
+-- its alarm states are true
+pub good-alarms : (t : List ℤ) → goodTable t ≡ true → AlarmsTrue t
+good-alarms t g = agree-true t (good-parts t g .agree)
+
+-- and its other entries decide them
+pub good-others : (t u : List ℤ) → goodTable t ≡ true → length u ≡ items
+    → ((i : ℕ) → isAlarmState i ≡ false → i < items → entry u i ≡ entry t i) → alarmsKept u ≡ t
+good-others t u g l same =
+    let p = good-parts t g in
+    let long = kept-length u ∙ l in
+    ext-getD (pos 0) (alarmsKept u) t (long ∙ sym (p .twelve))
+    (λ i h. others-decide t u i (p .agree) (omega (arith, l)) same (omega (arith, long)))
+
+-- so two good tables are the same where their other entries are
+pub good-same : (t u : List ℤ) → goodTable t ≡ true → goodTable u ≡ true
+    → ((i : ℕ) → isAlarmState i ≡ false → i < items → entry u i ≡ entry t i) → u ≡ t
+good-same t u g h same =
+    sym (good-others u u h (good-length u h) (λ i s k. refl)) ∙ good-others t u g (good-length u h) same
 
 -- the start table is good
 pub good-start : goodTable startValues ≡ true
-unfolding startValues tableFault
+unfolding startValues alarm tableFault
 good-start = refl
 
 -- ---- storing
@@ -69,54 +99,76 @@ all-set (x ∷ xs) (w ∷ t) (suc i) v a r =
     let p = both (fromLowToHigh x w) (allInRange xs t) a in
     rw (p .0) (all-set xs t i v (p .1) r)
 
+all-kept : (t : List ℤ) → allInRange itemList t ≡ true → allInRange itemList (alarmsKept t) ≡ true
+unfolding alarmsKept
+all-kept t a =
+    let ranged : (state limit : ℕ) → fromLowToHigh (itemAt state) (pos 1) ≡ true → fromLowToHigh (itemAt state) (pos 0) ≡ true
+    → fromLowToHigh (itemAt state) (alarm t limit) ≡ true =
+    λ state limit one none. alarm-is (λ (v : ℤ). fromLowToHigh (itemAt state) v ≡ true) one none t limit in
+    all-set itemList (set t AA (alarm t A1)) AB (alarm t A2)
+    (all-set itemList t AA (alarm t A1) a (ranged AA A1 refl refl)) (ranged AB A2 refl refl)
+
 -- a good table stays good after a store in range
 pub good-stored : (t : List ℤ) (i : ℕ) (v : ℤ) → goodTable t ≡ true → inRange i v ≡ true → goodTable (stored t i v) ≡ true
 unfolding stored inRange
 good-stored t i v g r =
     let p = good-parts t g in
-    good-from (set t i v) (length-set t i v ∙ p .0) (all-set itemList t i v (p .1) r)
+    let long = length-set t i v ∙ p .twelve in
+    good-from (record {
+      twelve = kept-length (set t i v) ∙ long;
+      inside = all-kept (set t i v) (all-set itemList t i v (p .inside) r);
+      agree = kept-agree (set t i v) (omega (arith, long));
+    })
 
--- a store leaves the table's length, puts the value in its entry, and leaves every other
+-- a store leaves the table's length, puts the value in its entry, and leaves every other: all this of the items whose entries are no
+-- alarm states
 pub stored-length : (t : List ℤ) (i : ℕ) (v : ℤ) → length (stored t i v) ≡ length t
 unfolding stored
-stored-length t i v = length-set t i v
+stored-length t i v = kept-length (set t i v) ∙ length-set t i v
 
-pub stored-same : (t : List ℤ) (i : ℕ) (v : ℤ) → i < length t → entry (stored t i v) i ≡ v
+pub stored-same : (t : List ℤ) (i : ℕ) (v : ℤ) → isAlarmState i ≡ false → i < length t → entry (stored t i v) i ≡ v
 unfolding stored
-stored-same t i v h = getD-set-same t i v (pos 0) h
+stored-same t i v o h = kept-other (set t i v) i o ∙ getD-set-same t i v (pos 0) h
 
-pub stored-other : (t : List ℤ) (i j : ℕ) (v : ℤ) → (j ≡ i → ⊥) → entry (stored t i v) j ≡ entry t j
+pub stored-other : (t : List ℤ) (i j : ℕ) (v : ℤ) → isAlarmState j ≡ false → (j ≡ i → ⊥) → entry (stored t i v) j ≡ entry t j
 unfolding stored
-stored-other t i j v h = getD-set-other t i j v (pos 0) h
+stored-other t i j v o h = kept-other (set t i v) j o ∙ getD-set-other t i j v (pos 0) h
 
 -- so a store to a writable item leaves the read-only ones
-pub stored-read-only : (t : List ℤ) (i j : ℕ) (v : ℤ) → itemAt i .writable ≡ true → itemAt j .writable ≡ false
+pub stored-read-only : (t : List ℤ) (i j : ℕ) (v : ℤ) → itemAt i .writable ≡ true → itemAt j .writable ≡ false → isAlarmState j ≡ false
     → entry (stored t i v) j ≡ entry t j
-stored-read-only t i j v w r =
-    stored-other t i j v (λ e. contrary (sym w ∙ ap (λ (k : ℕ). itemAt k .writable) (sym e) ∙ r))
+stored-read-only t i j v w r o =
+    stored-other t i j v o (λ e. contrary (sym w ∙ ap (λ (k : ℕ). itemAt k .writable) (sym e) ∙ r))
 
 -- and a store in range leaves every entry unchanged or in its range, in any table
-pub stored-in-range : (t : List ℤ) (i j : ℕ) (v : ℤ) → inRange i v ≡ true
-    → (entry (stored t i v) j ≡ entry t j) ⊎ (inRange j (entry (stored t i v) j) ≡ true)
-unfolding stored
-stored-in-range t i j v r = by (eqb j i) (ltb i (length t)) refl refl
+abbrev pub StaysOrInRange : List ℤ → List ℤ → ℕ → Type 0
+StaysOrInRange t u j = (entry u j ≡ entry t j) ⊎ (inRange j (entry u j) ≡ true)
+
+-- as one change after another does where each does
+pub stays-then : (t u w : List ℤ) (j : ℕ) → StaysOrInRange t u j → StaysOrInRange u w j → StaysOrInRange t w j
+stays-then t u w j first = ⊎-elim (λ stays. ⊎-elim (λ e. inl (stays ∙ e)) (λ r. inr (rw stays r)) first) (λ r. inr r)
+
+set-in-range : (t : List ℤ) (i j : ℕ) (v : ℤ) → inRange i v ≡ true → StaysOrInRange t (set t i v) j
+set-in-range t i j v r = by (eqb j i) (ltb i (length t)) refl refl
   where
-    by : (a b : Bool) → eqb j i ≡ a → ltb i (length t) ≡ b → (entry (set t i v) j ≡ entry t j) ⊎ (inRange j (entry (set t i v) j) ≡ true)
+    by : (a b : Bool) → eqb j i ≡ a → ltb i (length t) ≡ b → StaysOrInRange t (set t i v) j
     by true true p q =
         let same = eqb-true j i p in
         inr (rw same (rw (getD-set-same t i v (pos 0) (ltb-true i (length t) q)) r))
     by true false p q = inl (ap (λ (s : List ℤ). entry s j) (set-out t i v (ltb-false i (length t) q)))
     by false b p q = inl (getD-set-other t i j v (pos 0) (eqb-false j i p))
 
--- only zero lies between zero and zero
-zero-only : (v : ℤ) → (leZ (pos 0) v && leZ v (pos 0)) ≡ true → v ≡ pos 0
-zero-only (pos n) e = let h : n ≤ 0 = leb-true n 0 (both (leb 0 n) (leb n 0) e .1) in ap pos (omega arith)
-zero-only (negsuc n) e = contrary (sym e)
-
--- entries 2 and 3 of a good table are 0
-pub alarm-entry-zero : (t : List ℤ) → goodTable t ≡ true → (entry t AA ≡ pos 0) × (entry t AB ≡ pos 0)
-unfolding inRange
-alarm-entry-zero t g = (zero-only _ (good-entry t AA g (omega arith)), zero-only _ (good-entry t AB g (omega arith)))
+pub stored-in-range : (t : List ℤ) (i j : ℕ) (v : ℤ) → inRange i v ≡ true → StaysOrInRange t (stored t i v) j
+unfolding stored alarmsKept inRange
+stored-in-range t i j v r =
+    let s = set t i v in
+    let first = set s AA (alarm s A1) in
+    let second = set first AB (alarm s A2) in
+    let state : (u : List ℤ) (k limit : ℕ) → inRange k (pos 1) ≡ true → inRange k (pos 0) ≡ true
+    → StaysOrInRange u (set u k (alarm s limit)) j =
+    λ u k limit one none. set-in-range u k j _ (alarm-is (λ (w : ℤ). inRange k w ≡ true) one none s limit) in
+    stays-then t s second j (set-in-range t i j v r)
+    (stays-then s first second j (state s AA A1 refl refl) (state first AB A2 refl refl))
 
 -- ---- the firmware's put
 
@@ -131,11 +183,11 @@ module _ (t : List ℤ) (n : ℕ) (v : ℤ) {f : ℕ} (checked : f ≡ tableFaul
     unfolding putNumber
     put-no-item other = simp (eq-eqb (tableFault t) none (sym checked ∙ fine), other)
 
-    pub put-outside : listed n ≡ true → inRange (n - 1) v ≡ false → putNumber t n v ≡ valueOutside
+    pub put-outside : listed n ≡ true → mayPut (n - 1) v ≡ false → putNumber t n v ≡ valueOutside
     unfolding putNumber
     put-outside item outside = simp (eq-eqb (tableFault t) none (sym checked ∙ fine), item, outside)
 
-    pub put-inside : listed n ≡ true → inRange (n - 1) v ≡ true → putNumber t n v ≡ none
+    pub put-inside : listed n ≡ true → mayPut (n - 1) v ≡ true → putNumber t n v ≡ none
     unfolding putNumber
     put-inside item inside = simp (eq-eqb (tableFault t) none (sym checked ∙ fine), item, inside)
 
@@ -154,10 +206,11 @@ module _ (t : List ℤ) (n : ℕ) (v : ℤ) where
   unfolding putNumber
   accepted-in-range e =
       let item = unless (listed n) noSuchItem in
-      let value = unless (inRange (n - 1) v) valueOutside in
+      let value = unless (mayPut (n - 1) v) valueOutside in
       let after-fault = none-met (tableFault t) (item ∷ value ∷ []) e .1 in
       let after-item = none-met item (value ∷ []) after-fault .1 in
-      test-held _ valueOutside (omega arith) (none-met value [] after-item .0)
+      let held = test-held _ valueOutside (omega arith) (none-met value [] after-item .0) in
+      both (not (isAlarmState (n - 1))) (inRange (n - 1) v) held .1
 
 -- a good table stays good after put
 pub good-put : (t : List ℤ) (n : ℕ) (v : ℤ) → goodTable t ≡ true → goodTable (putTable t n v) ≡ true
@@ -166,40 +219,3 @@ good-put t n v g =
     chosen (λ (s : List ℤ). goodTable s ≡ true) (eqb (putNumber t n v) none)
     (λ e. good-stored t (n - 1) v g (accepted-in-range t n v (eqb-true _ _ e)))
     (λ _. g)
-
--- ---- the alarm states
-
--- the places are those of the items
-pub places : Places
-unfolding found
-places = record { measured = refl; state1 = refl; state2 = refl; alarm1 = refl; alarm2 = refl }
-
--- an alarm's state is 1 exactly when M1 is at least the alarm's value
-pub alarm-on : (t : List ℤ) (limit : ℕ) → leZ (entry t limit) (entry t M1) ≡ true → alarm t limit ≡ pos 1
-unfolding alarm
-alarm-on t limit h = rw h
-
-pub alarm-only : (t : List ℤ) (limit : ℕ) → alarm t limit ≡ pos 1 → leZ (entry t limit) (entry t M1) ≡ true
-unfolding alarm
-alarm-only t limit = by (leZ (entry t limit) (entry t M1))
-  where
-    by : (b : Bool) → cond b (pos 1) (pos 0) ≡ pos 1 → b ≡ true
-    by true e = refl
-    by false e = absurd (let z : _≡_ {A = ℕ} 0 1 = cc in omega arith)
-
--- AA goes by A1, AB by A2
-pub answered-AA : (t : List ℤ) → answered t AA ≡ alarm t A1
-unfolding answered
-answered-AA t = refl
-
-pub answered-AB : (t : List ℤ) → answered t AB ≡ alarm t A2
-unfolding answered
-answered-AB t = refl
-
--- what is written may also be read: a writable item answers its entry, since AA and AB are read-only
-pub answered-writable : (t : List ℤ) (i : ℕ) → itemAt i .writable ≡ true → answered t i ≡ entry t i
-unfolding answered
-answered-writable t i w =
-    let other : (k : ℕ) → itemAt k .writable ≡ false → i ≡ k → ⊥ =
-    λ k r e. contrary (sym w ∙ ap (λ (n : ℕ). itemAt n .writable) e ∙ r) in
-    rw (ne-eqb i AA (other AA refl), ne-eqb i AB (other AB refl))

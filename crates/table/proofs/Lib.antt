@@ -1,3 +1,4 @@
+pub mod Alarms
 pub mod Turns
 pub mod Laws
 pub mod Single

@@ -8,6 +8,9 @@ use Rattle.table.proofs as table
 pub check : OneOutcome table.check.ended table.check.Reads.Asked table.check.Reads.Post
 check = record { asksNothing = λ κs a. tt; single = λ κs a o u p q. single p q & refl }
 
+pub keep-alarms : OneOutcome table.keep_alarms.ended table.keep_alarms.Reads.Asked table.keep_alarms.Reads.Post
+keep-alarms = record { asksNothing = λ κs a. tt; single = λ κs a o u p q. refl & single p q & refl }
+
 pub start : OneOutcome table.start.ended table.start.Reads.Asked table.start.Reads.Post
 start = record { asksNothing = λ κs a. tt; single = λ κs a o u p q. let e = lent-single p q in e .0 & e .1 & refl }
 

@@ -1,13 +1,14 @@
--- The lent table: one entry per item, in the list's order.
+-- The lent table: one entry per item, in the list's order. The alarm states, AA and AB, stand in it and are kept true.
 use Prim.Native.Nat.{ℕ, _-_}
 use mathlib.Core.Path.{_≡_}
-use mathlib.Core.Bool.{Bool, true, cond, _&&_}
+use mathlib.Core.Bool.{Bool, true, false, not, cond, _&&_, _||_}
 use mathlib.Core.List.{List, [], _∷_, map}
 use lib.Dec.{eqb}
 use lib.IntN.{ℤ, pos}
 use lib.ListN.{getD, set, length}
 use lib.Signed.{leZ}
 use Rattle.numbers.specs.Numbers.{none, unless, firstMet, unlessMet}
+use Rattle.sign.specs.Sign.{eqZ}
 use Rattle.items.specs.ItemList.{Item, items, listed, itemList, fromLowToHigh, inRange, found}
 use Rattle.items.specs.declared.Found.the-variants.{At}
 
@@ -15,8 +16,8 @@ use Rattle.items.specs.declared.Found.the-variants.{At}
 abbrev pub wrongLength : ℕ
 wrongLength = 1
 
-abbrev pub entryOutside : ℕ
-entryOutside = 2
+abbrev pub badEntry : ℕ
+badEntry = 2
 
 abbrev pub noSuchItem : ℕ
 noSuchItem = 6
@@ -24,35 +25,13 @@ noSuchItem = 6
 abbrev pub valueOutside : ℕ
 valueOutside = 7
 
--- each entry is in the range of its item
-abbrev pub allInRange : List Item → List ℤ → Bool
-allInRange [] vs = true
-allInRange (x ∷ xs) [] = true
-allInRange (x ∷ xs) (v ∷ vs) = fromLowToHigh x v && allInRange xs vs
-
--- the table's fault: it must have an entry for each item, and each must be in its range
-unfoldable pub tableFault : List ℤ → ℕ
-tableFault t = firstMet (unless (eqb (length t) items) wrongLength ∷ unless (allInRange itemList t) entryOutside ∷ [])
-
--- a table that has no fault
-abbrev pub goodTable : List ℤ → Bool
-goodTable t = eqb (tableFault t) none
-
--- the start values, in any table of the right length
-unfoldable pub startValues : List ℤ
-startValues = map (λ (x : Item). x .start) itemList
-
-unfoldable pub startNumber : List ℤ → ℕ
-startNumber t = unless (eqb (length t) items) wrongLength
-
-unfoldable pub startTable : List ℤ → List ℤ
-startTable t = unlessMet (startNumber t) (λ number. t) startValues
-
 -- what stands at a place of the table, 0 past its end
 abbrev pub entry : List ℤ → ℕ → ℤ
 entry t i = getD t i (pos 0)
 
--- the places of the alarm states, AA and AB, and of the items that they are worked out from
+-- ---- the alarm states
+
+-- the places of the alarm states, AA and AB, and of the items that they go by
 abbrev pub M1 : ℕ
 M1 = 0
 
@@ -76,23 +55,84 @@ pub record Places : Type 0 where
   pub alarm1 : found 0x41 0x31 ≡ At A1
   pub alarm2 : found 0x41 0x32 ≡ At A2
 
--- an alarm's state: 1 exactly when M1 is at least the alarm's value, else 0
+abbrev pub isAlarmState : ℕ → Bool
+isAlarmState i = eqb i AA || eqb i AB
+
+-- the state of the alarm whose value stands at a place: 1 exactly when M1 is at least that value, else 0
 unfoldable pub alarm : List ℤ → ℕ → ℤ
 alarm t limit = cond (leZ (entry t limit) (entry t M1)) (pos 1) (pos 0)
 
--- what either line answers for an item: AA and AB are worked out, any other is its entry
+-- AA agrees with M1 and A1, and AB with M1 and A2
+abbrev pub alarmsAgree : List ℤ → Bool
+alarmsAgree t = eqZ (entry t AA) (alarm t A1) && eqZ (entry t AB) (alarm t A2)
+
+-- the table with AA and AB made true
+unfoldable pub alarmsKept : List ℤ → List ℤ
+alarmsKept t = set (set t AA (alarm t A1)) AB (alarm t A2)
+
+-- ---- a good table
+
+-- each entry is in the range of its item
+abbrev pub allInRange : List Item → List ℤ → Bool
+allInRange [] vs = true
+allInRange (x ∷ xs) [] = true
+allInRange (x ∷ xs) (v ∷ vs) = fromLowToHigh x v && allInRange xs vs
+
+-- the table's fault: it must have an entry for each item, each must be in its range, and the alarm states must be true
+unfoldable pub tableFault : List ℤ → ℕ
+tableFault t =
+    firstMet
+    (unless (eqb (length t) items) wrongLength
+    ∷ unless (allInRange itemList t) badEntry
+    ∷ unless (alarmsAgree t) badEntry
+    ∷ [])
+
+-- a table that has no fault
+abbrev pub goodTable : List ℤ → Bool
+goodTable t = eqb (tableFault t) none
+
+-- ---- what is done with it
+
+-- the start values, in any table of the right length
+unfoldable pub startValues : List ℤ
+startValues = map (λ (x : Item). x .start) itemList
+
+unfoldable pub startNumber : List ℤ → ℕ
+startNumber t = unless (eqb (length t) items) wrongLength
+
+unfoldable pub startTable : List ℤ → List ℤ
+startTable t = unlessMet (startNumber t) (λ number. t) startValues
+
+-- what either line answers for an item: its entry
 unfoldable pub answered : List ℤ → ℕ → ℤ
-answered t i = cond (eqb i AA) (alarm t A1) (cond (eqb i AB) (alarm t A2) (entry t i))
+answered t i = entry t i
 
--- the table after an item took a value
+-- the table after an item took a value: AA and AB are true again
 unfoldable pub stored : List ℤ → ℕ → ℤ → List ℤ
-stored t i v = set t i v
+stored t i v = alarmsKept (set t i v)
 
--- the firmware's put, of an item by its number from 1: the table must have no fault, there must be such an item, and the value
--- must be in its range
+-- the values that the firmware may put to an item: those in its range, and none to an alarm state
+abbrev pub mayPut : ℕ → ℤ → Bool
+mayPut i v = not (isAlarmState i) && inRange i v
+
+-- the firmware's put, of an item by its number from 1: the table must have no fault, there must be such an item, and it must be
+-- one that the value may be put to
 unfoldable pub putNumber : List ℤ → ℕ → ℤ → ℕ
-putNumber t n v = firstMet (tableFault t ∷ unless (listed n) noSuchItem ∷ unless (inRange (n - 1) v) valueOutside ∷ [])
+putNumber t n v = firstMet (tableFault t ∷ unless (listed n) noSuchItem ∷ unless (mayPut (n - 1) v) valueOutside ∷ [])
 
 -- it stores the value where no number is met, and else leaves the table
 unfoldable pub putTable : List ℤ → ℕ → ℤ → List ℤ
 putTable t n v = unlessMet (putNumber t n v) (λ number. t) (stored t (n - 1) v)
+
+-- ---- what a lamp routine sees that looks at the table and asks nobody
+
+-- the state at a place is true: 1 exactly when M1 is at least the alarm's value, and else 0
+pub record IsTrue (t : List ℤ) (state limit : ℕ) : Type 0 where
+  pub on : leZ (entry t limit) (entry t M1) ≡ true → entry t state ≡ pos 1
+  pub onlyThen : entry t state ≡ pos 1 → leZ (entry t limit) (entry t M1) ≡ true
+  pub off : leZ (entry t limit) (entry t M1) ≡ false → entry t state ≡ pos 0
+
+-- AA goes by A1, AB by A2
+pub record AlarmsTrue (t : List ℤ) : Type 0 where
+  pub alarm1 : IsTrue t AA A1
+  pub alarm2 : IsTrue t AB A2

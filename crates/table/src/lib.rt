@@ -1,13 +1,14 @@
 // The lent table, which has one entry for each item: its check, its start values, what either line answers for an item,
-// storing a value, and the firmware's put.
+// storing a value, and the firmware's put. The alarm states, AA and AB, stand in it and are kept true.
 ghost use mathlib.Core.Path.{_≡_};
-ghost use lib.ListN.{length};
+ghost use lib.ListN.{length, set};
 ghost use Rattle.numbers.specs.Promise.{Lent};
 ghost use Rattle.items.specs.ItemList.{items, itemList};
-ghost use Rattle.table.specs.Table.{allInRange, tableFault, startNumber, startTable, entry, alarm, answered, stored, putNumber, putTable};
+ghost use Rattle.table.specs.Table.{isAlarmState, entry, alarm, alarmsAgree, alarmsKept, allInRange, tableFault};
+ghost use Rattle.table.specs.Table.{startNumber, startTable, answered, stored, mayPut, putNumber, putTable};
 use numbers::NONE;
 
-// The places of the alarm states, AA and AB, and of the items that they are worked out from.
+// The places of the alarm states, AA and AB, and of the items that they go by.
 const M1: usize = 0;
 
 const AA: usize = 1;
@@ -21,11 +22,70 @@ const A2: usize = 7;
 // Numbers given back.
 pub const WRONG_LENGTH: u8 = 1;
 
-pub const ENTRY_OUTSIDE: u8 = 2;
+pub const BAD_ENTRY: u8 = 2;
 
 pub const NO_SUCH_ITEM: u8 = 6;
 
 pub const VALUE_OUTSIDE: u8 = 7;
+
+// ---- entries
+
+// What stands at a place of the table, 0 past its end.
+fn entry_at(table: &[i32], i: usize) -> i32
+    ensures { λ r. ⌜ r ≡ entry (now (table .entry)) i ⌝ }
+{
+    if table.len() <= i {
+        return 0;
+    }
+    table[i]
+}
+
+// An entry takes a value. Nothing happens past the table's end.
+fn set_entry(table: &mut [i32], i: usize, value: i32)
+    ensures { λ r. ⌜ now (table .exit) ≡ set (now (table .entry)) i value ⌝ }
+{
+    if i < table.len() {
+        table[i] = value;
+    }
+}
+
+// ---- the alarm states
+
+// Whether a place is that of an alarm state.
+fn is_alarm_state(i: usize) -> bool
+    ensures { λ r. ⌜ r ≡ isAlarmState i ⌝ }
+{
+    (i == AA) | (i == AB)
+}
+
+// The state of the alarm whose value stands at a place: 1 exactly when M1 is at least that value.
+fn alarm_state(table: &[i32], limit: usize) -> i32
+    ensures { λ r. ⌜ r ≡ alarm (now (table .entry)) limit ⌝ }
+{
+    let measured = entry_at(table, M1);
+    let value = entry_at(table, limit);
+    if value <= measured { 1 } else { 0 }
+}
+
+// Whether AA agrees with M1 and A1, and AB with M1 and A2.
+fn alarms_agree(table: &[i32]) -> bool
+    ensures { λ r. ⌜ r ≡ alarmsAgree (now (table .entry)) ⌝ }
+{
+    (entry_at(table, AA) == alarm_state(table, A1))
+        & (entry_at(table, AB) == alarm_state(table, A2))
+}
+
+// AA and AB are made true.
+pub fn keep_alarms(table: &mut [i32])
+    ensures { λ r. ⌜ now (table .exit) ≡ alarmsKept (now (table .entry)) ⌝ }
+{
+    let first = alarm_state(&table[..], A1);
+    let second = alarm_state(&table[..], A2);
+    set_entry(table, AA, first);
+    set_entry(table, AB, second);
+}
+
+// ---- the check
 
 // Whether each entry is in the range of its item. Every entry is looked at, with no way out of the loop, so that the compiler
 // compares several at once.
@@ -45,19 +105,19 @@ fn all_in_range(table: &[i32]) -> bool
     inside
 }
 
-// The table's fault: WRONG_LENGTH, ENTRY_OUTSIDE, or NONE.
+// The table's fault: WRONG_LENGTH, BAD_ENTRY, or NONE.
 pub fn check(table: &[i32]) -> u8
     ensures { λ r. ⌜ r ≡ tableFault (now (table .entry)) ⌝ }
 {
     if table.len() != items::ITEMS {
         return WRONG_LENGTH;
     }
-    if all_in_range(table) {
-        NONE
-    } else {
-        ENTRY_OUTSIDE
-    }
+    let inside = all_in_range(table);
+    let agree = alarms_agree(table);
+    if inside & agree { NONE } else { BAD_ENTRY }
 }
+
+// ---- what is done with the table
 
 // Every item takes its start value; a table of another length is left as it is.
 pub fn start(table: &mut [i32]) -> u8
@@ -75,46 +135,32 @@ pub fn start(table: &mut [i32]) -> u8
     NONE
 }
 
-// What stands at a place of the table, 0 past its end.
-fn entry_at(table: &[i32], i: usize) -> i32
-    ensures { λ r. ⌜ r ≡ entry (now (table .entry)) i ⌝ }
-{
-    if table.len() <= i {
-        return 0;
-    }
-    table[i]
-}
-
-// An alarm's state: 1 exactly when M1 is at least the alarm's value.
-fn alarm_state(table: &[i32], limit: usize) -> i32
-    ensures { λ r. ⌜ r ≡ alarm (now (table .entry)) limit ⌝ }
-{
-    let measured = entry_at(table, M1);
-    let value = entry_at(table, limit);
-    if value <= measured { 1 } else { 0 }
-}
-
-// What either line answers for an item: its entry, and for an alarm state what M1 and the alarm's value make of it.
+// What either line answers for an item: its entry.
 pub fn answer(table: &[i32], i: usize) -> i32
     ensures { λ r. ⌜ r ≡ answered (now (table .entry)) i ⌝ }
 {
-    match i {
-        AA => alarm_state(table, A1),
-        AB => alarm_state(table, A2),
-        _ => entry_at(table, i),
-    }
+    entry_at(table, i)
 }
 
-// An item takes a value. Nothing happens past the table's end.
+// An item takes a value, and AA and AB are made true again. Past the table's end no item takes it.
 pub fn store(table: &mut [i32], i: usize, value: i32)
     ensures { λ r. ⌜ now (table .exit) ≡ stored (now (table .entry)) i value ⌝ }
 {
-    if i < table.len() {
-        table[i] = value;
-    }
+    set_entry(table, i, value);
+    keep_alarms(table);
 }
 
-// The firmware sets an item, by its number from 1, to any value in its range.
+// Whether the firmware may put a value to an item: none to an alarm state, which only M1 and its alarm's value decide.
+fn may_put(i: usize, value: i32) -> bool
+    ensures { λ r. ⌜ r ≡ mayPut i value ⌝ }
+{
+    if is_alarm_state(i) {
+        return false;
+    }
+    items::in_range(i, value)
+}
+
+// The firmware sets an item, by its number from 1, to any value in its range. An alarm state it cannot set.
 pub fn put(table: &mut [i32], number: u32, value: i32) -> u8
     ensures { λ r. ⌜ Lent (putNumber (now (table .entry)) number value)
         (putTable (now (table .entry)) number value) r (now (table .exit)) ⌝ }
@@ -127,7 +173,7 @@ pub fn put(table: &mut [i32], number: u32, value: i32) -> u8
         return NO_SUCH_ITEM;
     }
     let i = number as usize - 1;
-    if items::in_range(i, value) {
+    if may_put(i, value) {
         store(table, i, value);
         NONE
     } else {

@@ -14,8 +14,9 @@ use Rattle.numbers.proofs.Tests.{contrary, both}
 use Rattle.items.specs.ItemList.{items, mapSize, itemAt, placeOf}
 use Rattle.items.proofs.Lists.{writable-listed}
 use Rattle.items.proofs.Lookup.{item-has, place-past, place-registered}
-use Rattle.table.specs.Table.{entry}
-use Rattle.table.proofs.Laws.{stored-length, stored-same, stored-other, answered-writable}
+use Rattle.table.specs.Table.{entry, isAlarmState, answered}
+use Rattle.table.proofs.Alarms.{writable-no-state}
+use Rattle.table.proofs.Laws.{stored-length, stored-same, stored-other}
 use Rattle.registers.specs.Register.{toRegister, word, highFirst, readAs, registerAt, registersFrom}
 use Rattle.registers.proofs.Registers.{to-of}
 use Rattle.writes.specs.Writes.{Write, writes, writable, each, storedAll, Outside}
@@ -36,9 +37,8 @@ module _ (r : ℕ) (w : itemAt (placeOf r) .writable ≡ true) where
 
   -- it reads its item's entry
   reads-entry : (t : List ℤ) → registerAt t r ≡ toRegister (entry t (placeOf r))
-  unfolding registerAt
-  reads-entry t =
-      ap (readAs t) (sym (item-has r (writable-listed (placeOf r) w))) ∙ ap toRegister (answered-writable t (placeOf r) w)
+  unfolding registerAt answered
+  reads-entry t = ap (readAs t) (sym (item-has r (writable-listed (placeOf r) w)))
 
 -- ---- the span
 
@@ -73,15 +73,15 @@ span-past-map r bytes some past = by (each writable (writes r bytes)) refl
     by true e = absurd (let inside = span-in-map r bytes e some in omega arith)
     by false e = e
 
--- an entry whose register is outside the span stays
-pub outside-stays : (t : List ℤ) (r : ℕ) (bytes : List ℕ) (i : ℕ) → each writable (writes r bytes) ≡ true
+-- an entry whose register is outside the span stays, the alarm states apart
+pub outside-stays : (t : List ℤ) (r : ℕ) (bytes : List ℕ) (i : ℕ) → isAlarmState i ≡ false → each writable (writes r bytes) ≡ true
     → Outside r (length (writes r bytes)) (itemAt i .register) → entry (storedAll t (writes r bytes)) i ≡ entry t i
-outside-stays t r [] i a o = refl
-outside-stays t r (high ∷ []) i a o = refl
-outside-stays t r (high ∷ low ∷ bytes) i a o =
+outside-stays t r [] i s a o = refl
+outside-stays t r (high ∷ []) i s a o = refl
+outside-stays t r (high ∷ low ∷ bytes) i s a o =
     let p = both (itemAt (placeOf r) .writable) (each writable (writes (suc r) bytes)) a in
-    outside-stays _ (suc r) bytes i (p .1) (next o)
-    ∙ stored-other t (placeOf r) i _ (λ e. other o (ap (λ (k : ℕ). itemAt k .register) e ∙ its-register r (p .0)))
+    outside-stays _ (suc r) bytes i s (p .1) (next o)
+    ∙ stored-other t (placeOf r) i _ s (λ e. other o (ap (λ (k : ℕ). itemAt k .register) e ∙ its-register r (p .0)))
   where
     next : Outside r (suc (length (writes (suc r) bytes))) (itemAt i .register)
         → Outside (suc r) (length (writes (suc r) bytes)) (itemAt i .register)
@@ -106,8 +106,9 @@ all-stand t r (high ∷ []) l a = tt
 all-stand t r (high ∷ low ∷ bytes) l a =
     let p = both (itemAt (placeOf r) .writable) (each writable (writes (suc r) bytes)) a in
     let listed = writable-listed (placeOf r) (p .0) in
-    let here = its-register r (p .0) in (
-      outside-stays _ (suc r) bytes (placeOf r) (p .1) (inl (omega arith)) ∙ stored-same t (placeOf r) _ (omega arith),
+    let here = its-register r (p .0) in
+    let other = writable-no-state (placeOf r) (p .0) in (
+      outside-stays _ (suc r) bytes (placeOf r) other (p .1) (inl (omega arith)) ∙ stored-same t (placeOf r) _ other (omega arith),
       all-stand _ (suc r) bytes (stored-length t (placeOf r) _ ∙ l) (p .1),
     )
 

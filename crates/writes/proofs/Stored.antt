@@ -1,7 +1,7 @@
 -- The table after a list of writes: what each entry becomes, and what writes that are allowed leave alone.
 -- Assumes nothing.
 use mathlib.Core.Path.{_≡_, refl, sym, ap, _∙_}
-use mathlib.Core.Logic.{_⊎_, inl, inr, ⊎-elim}
+use mathlib.Core.Logic.{inl}
 use mathlib.Core.Bool.{Bool, true, false, cond}
 use mathlib.Core.List.{List, [], _∷_}
 use Prim.Native.Nat.{ℕ, _<_}
@@ -11,9 +11,10 @@ use lib.Dec.{eqb}
 use lib.IntN.{ℤ}
 use lib.ListN.{length}
 use Rattle.numbers.proofs.Tests.{contrary, both}
-use Rattle.items.specs.ItemList.{itemAt, inRange}
-use Rattle.table.specs.Table.{goodTable, entry, stored}
-use Rattle.table.proofs.Laws.{good-stored, stored-length, stored-same, stored-other, stored-read-only, stored-in-range}
+use Rattle.items.specs.ItemList.{itemAt}
+use Rattle.table.specs.Table.{isAlarmState, goodTable, entry, stored}
+use Rattle.table.proofs.Laws.{good-stored, stored-length, stored-same, stored-other, stored-read-only}
+use Rattle.table.proofs.Laws.{StaysOrInRange, stays-then, stored-in-range}
 use Rattle.writes.specs.Writes.{Write, writable, inside, allowed, each, storedAll, later, given, over}
 use Rattle.writes.specs.declared.Given.{Given}
 use Rattle.writes.specs.declared.Given.the-variants.{Value, Nothing}
@@ -36,36 +37,38 @@ over-later v Nothing h = refl
 -- ---- each entry
 
 -- what one write makes of an entry
-one-given : (t : List ℤ) (w : Write) (i : ℕ) → i < length t
+one-given : (t : List ℤ) (w : Write) (i : ℕ) → isAlarmState i ≡ false → i < length t
     → entry (stored t (w .place) (w .value)) i ≡ over (entry t i) (cond (eqb (w .place) i) (Value (w .value)) Nothing)
-one-given t w i h = by (eqb (w .place) i) refl
+one-given t w i o h = by (eqb (w .place) i) refl
   where
     by : (b : Bool) → eqb (w .place) i ≡ b
         → entry (stored t (w .place) (w .value)) i ≡ over (entry t i) (cond b (Value (w .value)) Nothing)
     by true e =
         let here = eqb-true (w .place) i e in
-        ap (entry (stored t (w .place) (w .value))) (sym here) ∙ stored-same t (w .place) (w .value) (omega arith)
-    by false e = stored-other t (w .place) i (w .value) (λ z. eqb-false (w .place) i e (sym z))
+        ap (entry (stored t (w .place) (w .value))) (sym here)
+        ∙ stored-same t (w .place) (w .value) (ap isAlarmState here ∙ o) (omega arith)
+    by false e = stored-other t (w .place) i (w .value) o (λ z. eqb-false (w .place) i e (sym z))
 
--- an entry becomes what the writes give its item, and stays where they give it nothing
-pub all-given : (t : List ℤ) (ws : List Write) (i : ℕ) → i < length t → entry (storedAll t ws) i ≡ over (entry t i) (given ws i)
-all-given t [] i h = refl
-all-given t (w ∷ ws) i h =
-    all-given (stored t (w .place) (w .value)) ws i (rw (stored-length t (w .place) (w .value)) h)
-    ∙ ap (λ (v : ℤ). over v (given ws i)) (one-given t w i h)
+-- an entry becomes what the writes give its item, and stays where they give it nothing: each but an alarm state
+pub all-given : (t : List ℤ) (ws : List Write) (i : ℕ) → isAlarmState i ≡ false → i < length t
+    → entry (storedAll t ws) i ≡ over (entry t i) (given ws i)
+all-given t [] i o h = refl
+all-given t (w ∷ ws) i o h =
+    all-given (stored t (w .place) (w .value)) ws i o (rw (stored-length t (w .place) (w .value)) h)
+    ∙ ap (λ (v : ℤ). over v (given ws i)) (one-given t w i o h)
     ∙ over-later (entry t i) (given ws i) (cond (eqb (w .place) i) (Value (w .value)) Nothing)
 
 -- ---- writes that are allowed
 
--- they leave the read-only items
-pub all-read-only : (t : List ℤ) (ws : List Write) (j : ℕ) → each writable ws ≡ true → itemAt j .writable ≡ false
+-- they leave the read-only items, the alarm states apart
+pub all-read-only : (t : List ℤ) (ws : List Write) (j : ℕ) → each writable ws ≡ true → itemAt j .writable ≡ false → isAlarmState j ≡ false
     → entry (storedAll t ws) j ≡ entry t j
-all-read-only t [] j a r = refl
-all-read-only t (w ∷ ws) j a r =
+all-read-only t [] j a r o = refl
+all-read-only t (w ∷ ws) j a r o =
     let p = both (writable w) (each writable ws) a in
-    all-read-only (stored t (w .place) (w .value)) ws j (p .1) r ∙ stored-read-only t (w .place) j (w .value) (p .0) r
+    all-read-only (stored t (w .place) (w .value)) ws j (p .1) r o ∙ stored-read-only t (w .place) j (w .value) (p .0) r o
 
--- since they give them nothing
+-- they give a read-only item nothing
 pub read-only-given : (ws : List Write) (i : ℕ) → each allowed ws ≡ true → itemAt i .writable ≡ false → given ws i ≡ Nothing
 read-only-given [] i a r = refl
 read-only-given (w ∷ ws) i a r =
@@ -75,15 +78,12 @@ read-only-given (w ∷ ws) i a r =
     rw (read-only-given ws i (p .1) r, ne-eqb (w .place) i other)
 
 -- and leave every entry unchanged or in its range, in any table
-pub all-in-range : (t : List ℤ) (ws : List Write) (j : ℕ) → each inside ws ≡ true
-    → (entry (storedAll t ws) j ≡ entry t j) ⊎ (inRange j (entry (storedAll t ws) j) ≡ true)
+pub all-in-range : (t : List ℤ) (ws : List Write) (j : ℕ) → each inside ws ≡ true → StaysOrInRange t (storedAll t ws) j
 all-in-range t [] j a = inl refl
 all-in-range t (w ∷ ws) j a =
     let p = both (inside w) (each inside ws) a in
-    ⊎-elim
-    (λ stays. ⊎-elim (λ e. inl (stays ∙ e)) (λ r. inr (rw stays r)) (stored-in-range t (w .place) j (w .value) (p .0)))
-    (λ r. inr r)
-    (all-in-range (stored t (w .place) (w .value)) ws j (p .1))
+    let one = stored t (w .place) (w .value) in
+    stays-then t one (storedAll one ws) j (stored-in-range t (w .place) j (w .value) (p .0)) (all-in-range one ws j (p .1))
 
 -- so a good table stays good
 pub all-good : (t : List ℤ) (ws : List Write) → goodTable t ≡ true → each inside ws ≡ true → goodTable (storedAll t ws) ≡ true

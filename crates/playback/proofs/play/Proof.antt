@@ -1,5 +1,5 @@
 -- `playback::play` meets its contract: a fault leaves the table, and else the walk back from the start values gives each item the last
--- value that the frames write to it.
+-- value that the frames write to it, and then the alarm states are made true.
 -- Assumes nothing.
 use mathlib.Core.Path.{_≡_, sym, ap, _∙_}
 use lib.ListN.{length}
@@ -36,17 +36,23 @@ start-requires c κs = search needs
 settle-all-requires : tie.Need-settle-all-requires
 settle-all-requires c κs = ap length (fresh (c .before .before)) ∙ start-length
 
+keep-alarms-requires : tie.Need-keep-alarms-requires
+keep-alarms-requires c κs = search needs
+
 same-length-2 : tie.Need-same-length-2
 same-length-2 c = search needs
 
 returns-2 : tie.Need-returns-2
 returns-2 c =
-    let n = c .before .before .before .before in
+    let k = c .before in
+    let w = k .before .before .before in
+    let n = w .before .before .before in
     let e = n .before .before in
     let f = e .before in
     let a = f .before .before .before .args in
     is-played (a .table .now) (a .address) (a .capture .now) (f .play-fault .ensures) (e .if1 .left)
-    (rw (fresh n) at (c .before .settle-all .ensures))
+    (rw (fresh n) at (w .settle-all .ensures))
+    (k .keep-alarms .ensures)
 
 pub play-spec : {M : Type 1} → statement M
 play-spec =
@@ -57,5 +63,6 @@ play-spec =
     returns
     start-requires
     settle-all-requires
+    keep-alarms-requires
     same-length-2
     returns-2)

@@ -7,9 +7,9 @@ use native.Mathlib.Omega.{arith}
 use Prim.Native.Nat.{_-_}
 use Rattle.numbers.specs.Numbers.{none}
 use Rattle.sign.proofs.Laws.{same}
-use Rattle.items.specs.ItemList.{listed, inRange}
+use Rattle.items.specs.ItemList.{listed}
 use Rattle.items.proofs.Lookup.{listed-place}
-use Rattle.table.specs.Table.{stored}
+use Rattle.table.specs.Table.{stored, mayPut}
 use Rattle.table.proofs.Laws.{put-fault, put-no-item, put-outside, put-inside, put-refused, put-accepted}
 use Rattle.table.proofs.put.Statement.{statement}
 use Rattle.table.proofs.put.Tie as tie
@@ -47,16 +47,16 @@ item c = sym (c .before .listed .ensures) ∙ not-false _ (c .if2 .left)
 sub-i : tie.Need-sub-i
 sub-i c = listed-place _ (item c) .0
 
-in-range-requires : tie.Need-in-range-requires
-in-range-requires c κs = search needs
+may-put-requires : tie.Need-may-put-requires
+may-put-requires c κs = search needs
 
--- the range is tested of the value that the argument stands for
-ranged : (c : tie.After-in-range) →
+-- what may be put is tested of the value that the argument stands for
+ranged : (c : tie.After-may-put) →
     let s = c .before .before .before .before .before .before in
-    inRange (s .args .number - 1) (s .args .value) ≡ c .in-range .result
+    mayPut (s .args .number - 1) (s .args .value) ≡ c .may-put .result
 ranged c =
     let s = c .before .before .before .before .before .before in
-    sym (c .in-range .ensures ∙ ap (inRange (s .args .number - 1)) (same (s .args .value) (s .fits .value .sfits)))
+    sym (c .may-put .ensures ∙ ap (mayPut (s .args .number - 1)) (same (s .args .value) (s .fits .value .sfits)))
 
 store-requires : tie.Need-store-requires
 store-requires c κs = search needs
@@ -97,7 +97,7 @@ put-spec =
     same-length-2
     returns-2
     sub-i
-    in-range-requires
+    may-put-requires
     store-requires
     same-length-3
     returns-3
