@@ -7,7 +7,7 @@ use mathlib.Core.List.{List, [], _∷_}
 use Prim.Native.Nat.{ℕ, zero, suc, _-_, _<_}
 use native.Mathlib.Nat.{not-suc-le-zero, le-of-suc-le-suc}
 use native.Mathlib.Omega.{arith}
-use borrow.Author.Tests.{eq-eqb, ne-eqb, eqb-true, eqb-false, ltb-true, ltb-false}
+use borrow.Author.Tests.{eq-eqb, ne-eqb, eqb-true, eqb-false, ltb-true, ltb-false, lt-ltb}
 use lib.Dec.{eqb, ltb}
 use lib.IntN.{ℤ, pos}
 use lib.ListN.{getD, set, length, length-set}
@@ -108,31 +108,37 @@ all-kept t a =
     all-set itemList (set t AA (alarm t A1)) AB (alarm t A2)
     (all-set itemList t AA (alarm t A1) a (ranged AA A1 refl refl)) (ranged AB A2 refl refl)
 
+-- what holds of the table as it came, and of one with an entry set and the alarm states made true, holds after a store
+by-store : (P : List ℤ → Type 0) (t : List ℤ) (i : ℕ) (v : ℤ) → P t → P (alarmsKept (set t i v)) → P (stored t i v)
+unfolding stored
+by-store P t i v same new = chosen P (ltb i (length t)) (λ _. new) (λ _. same)
+
 -- a good table stays good after a store in range
 pub good-stored : (t : List ℤ) (i : ℕ) (v : ℤ) → goodTable t ≡ true → inRange i v ≡ true → goodTable (stored t i v) ≡ true
-unfolding stored inRange
+unfolding inRange
 good-stored t i v g r =
     let p = good-parts t g in
     let long = length-set t i v ∙ p .twelve in
-    good-from (record {
+    by-store (λ (s : List ℤ). goodTable s ≡ true) t i v g
+    (good-from (record {
       twelve = kept-length (set t i v) ∙ long;
       inside = all-kept (set t i v) (all-set itemList t i v (p .inside) r);
       agree = kept-agree (set t i v) (omega (arith, long));
-    })
+    }))
 
--- a store leaves the table's length, puts the value in its entry, and leaves every other: all this of the items whose entries are no
--- alarm states
+-- a store leaves the table's length, puts the value in its entry, and leaves every other: all this of the entries that are no alarm
+-- states
 pub stored-length : (t : List ℤ) (i : ℕ) (v : ℤ) → length (stored t i v) ≡ length t
-unfolding stored
-stored-length t i v = kept-length (set t i v) ∙ length-set t i v
+stored-length t i v =
+    by-store (λ (s : List ℤ). length s ≡ length t) t i v refl (kept-length (set t i v) ∙ length-set t i v)
 
 pub stored-same : (t : List ℤ) (i : ℕ) (v : ℤ) → isAlarmState i ≡ false → i < length t → entry (stored t i v) i ≡ v
 unfolding stored
-stored-same t i v o h = kept-other (set t i v) i o ∙ getD-set-same t i v (pos 0) h
+stored-same t i v o h = rw (lt-ltb i (length t) h) (kept-other (set t i v) i o ∙ getD-set-same t i v (pos 0) h)
 
 pub stored-other : (t : List ℤ) (i j : ℕ) (v : ℤ) → isAlarmState j ≡ false → (j ≡ i → ⊥) → entry (stored t i v) j ≡ entry t j
-unfolding stored
-stored-other t i j v o h = kept-other (set t i v) j o ∙ getD-set-other t i j v (pos 0) h
+stored-other t i j v o h =
+    by-store (λ (s : List ℤ). entry s j ≡ entry t j) t i v refl (kept-other (set t i v) j o ∙ getD-set-other t i j v (pos 0) h)
 
 -- so a store to a writable item leaves the read-only ones
 pub stored-read-only : (t : List ℤ) (i j : ℕ) (v : ℤ) → itemAt i .writable ≡ true → itemAt j .writable ≡ false → isAlarmState j ≡ false
@@ -159,7 +165,7 @@ set-in-range t i j v r = by (eqb j i) (ltb i (length t)) refl refl
     by false b p q = inl (getD-set-other t i j v (pos 0) (eqb-false j i p))
 
 pub stored-in-range : (t : List ℤ) (i j : ℕ) (v : ℤ) → inRange i v ≡ true → StaysOrInRange t (stored t i v) j
-unfolding stored alarmsKept inRange
+unfolding alarmsKept inRange
 stored-in-range t i j v r =
     let s = set t i v in
     let first = set s AA (alarm s A1) in
@@ -167,8 +173,9 @@ stored-in-range t i j v r =
     let state : (u : List ℤ) (k limit : ℕ) → inRange k (pos 1) ≡ true → inRange k (pos 0) ≡ true
     → StaysOrInRange u (set u k (alarm s limit)) j =
     λ u k limit one none. set-in-range u k j _ (alarm-is (λ (w : ℤ). inRange k w ≡ true) one none s limit) in
-    stays-then t s second j (set-in-range t i j v r)
-    (stays-then s first second j (state s AA A1 refl refl) (state first AB A2 refl refl))
+    by-store (λ (u : List ℤ). StaysOrInRange t u j) t i v (inl refl)
+    (stays-then t s second j (set-in-range t i j v r)
+    (stays-then s first second j (state s AA A1 refl refl) (state first AB A2 refl refl)))
 
 -- ---- the firmware's put
 

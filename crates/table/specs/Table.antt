@@ -3,7 +3,7 @@ use Prim.Native.Nat.{ℕ, _-_}
 use mathlib.Core.Path.{_≡_}
 use mathlib.Core.Bool.{Bool, true, false, not, cond, _&&_, _||_}
 use mathlib.Core.List.{List, [], _∷_, map}
-use lib.Dec.{eqb}
+use lib.Dec.{eqb, ltb}
 use lib.IntN.{ℤ, pos}
 use lib.ListN.{getD, set, length}
 use lib.Signed.{leZ}
@@ -107,9 +107,9 @@ startTable t = unlessMet (startNumber t) (λ number. t) startValues
 unfoldable pub answered : List ℤ → ℕ → ℤ
 answered t i = entry t i
 
--- the table after an item took a value: AA and AB are true again
+-- the table after the item at a place took a value: AA and AB are true again. Past the table's end there is none.
 unfoldable pub stored : List ℤ → ℕ → ℤ → List ℤ
-stored t i v = alarmsKept (set t i v)
+stored t i v = cond (ltb i (length t)) (alarmsKept (set t i v)) t
 
 -- the values that the firmware may put to an item: those in its range, and none to an alarm state
 abbrev pub mayPut : ℕ → ℤ → Bool

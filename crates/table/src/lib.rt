@@ -67,12 +67,14 @@ fn alarm_state(table: &[i32], limit: usize) -> i32
     if value <= measured { 1 } else { 0 }
 }
 
-// Whether AA agrees with M1 and A1, and AB with M1 and A2.
+// Whether AA agrees with M1 and A1, and AB with M1 and A2. Both states are worked out before either is compared, so that the compiler
+// compares them at once.
 fn alarms_agree(table: &[i32]) -> bool
     ensures { λ r. ⌜ r ≡ alarmsAgree (now (table .entry)) ⌝ }
 {
-    (entry_at(table, AA) == alarm_state(table, A1))
-        & (entry_at(table, AB) == alarm_state(table, A2))
+    let first = alarm_state(table, A1);
+    let second = alarm_state(table, A2);
+    (entry_at(table, AA) == first) & (entry_at(table, AB) == second)
 }
 
 // AA and AB are made true.
@@ -105,16 +107,18 @@ fn all_in_range(table: &[i32]) -> bool
     inside
 }
 
-// The table's fault: WRONG_LENGTH, BAD_ENTRY, or NONE.
+// The table's fault: WRONG_LENGTH, BAD_ENTRY, or NONE. The alarm states have one number with the ranges, so that either may be looked at
+// first; that they come first costs less.
 pub fn check(table: &[i32]) -> u8
     ensures { λ r. ⌜ r ≡ tableFault (now (table .entry)) ⌝ }
 {
     if table.len() != items::ITEMS {
         return WRONG_LENGTH;
     }
-    let inside = all_in_range(table);
-    let agree = alarms_agree(table);
-    if inside & agree { NONE } else { BAD_ENTRY }
+    if !alarms_agree(table) {
+        return BAD_ENTRY;
+    }
+    if all_in_range(table) { NONE } else { BAD_ENTRY }
 }
 
 // ---- what is done with the table
@@ -142,12 +146,15 @@ pub fn answer(table: &[i32], i: usize) -> i32
     entry_at(table, i)
 }
 
-// An item takes a value, and AA and AB are made true again. Past the table's end no item takes it.
+// An item takes a value, and AA and AB are made true again. Nothing happens past the table's end: where they were made true there too,
+// the compiler would hold M1, A1 and A2 from the table's check on, at each call.
 pub fn store(table: &mut [i32], i: usize, value: i32)
     ensures { λ r. ⌜ now (table .exit) ≡ stored (now (table .entry)) i value ⌝ }
 {
-    set_entry(table, i, value);
-    keep_alarms(table);
+    if i < table.len() {
+        table[i] = value;
+        keep_alarms(table);
+    }
 }
 
 // Whether the firmware may put a value to an item: none to an alarm state, which only M1 and its alarm's value decide.

@@ -8,35 +8,35 @@ use Rattle.sign.proofs.Laws.{equal-of}
 use Rattle.table.proofs.alarms_agree.Statement.{statement}
 use Rattle.table.proofs.alarms_agree.Tie as tie
 
-entry-at-requires : tie.Need-entry-at-requires
-entry-at-requires c κs = search needs
-
 alarm-state-requires : tie.Need-alarm-state-requires
 alarm-state-requires c κs = search needs
-
-entry-at-requires-2 : tie.Need-entry-at-requires-2
-entry-at-requires-2 c κs = search needs
 
 alarm-state-requires-2 : tie.Need-alarm-state-requires-2
 alarm-state-requires-2 c κs = search needs
 
+entry-at-requires : tie.Need-entry-at-requires
+entry-at-requires c κs = search needs
+
+entry-at-requires-2 : tie.Need-entry-at-requires-2
+entry-at-requires-2 c κs = search needs
+
 returns : tie.Need-returns
 returns c =
-    let b = c .before in
-    let a = b .before .before in
-    let first = b .before in
+    let a = c .before in
+    let second = a .before in
+    let first = second .before in
     ap₂ _&&_
     (equal-of (a .entry-at .result) (first .alarm-state .result) (a .entry-at .ok) (first .alarm-state .ok)
     ∙ ap₂ eqZ (a .entry-at .ensures) (first .alarm-state .ensures))
-    (equal-of (b .entry-at2 .result) (c .alarm-state2 .result) (b .entry-at2 .ok) (c .alarm-state2 .ok)
-    ∙ ap₂ eqZ (b .entry-at2 .ensures) (c .alarm-state2 .ensures))
+    (equal-of (c .entry-at2 .result) (second .alarm-state2 .result) (c .entry-at2 .ok) (second .alarm-state2 .ok)
+    ∙ ap₂ eqZ (c .entry-at2 .ensures) (second .alarm-state2 .ensures))
 
 pub alarms-agree-spec : {M : Type 1} → statement M
 alarms-agree-spec =
     tie.close
     (tie.spec
-    entry-at-requires
     alarm-state-requires
-    entry-at-requires-2
     alarm-state-requires-2
+    entry-at-requires
+    entry-at-requires-2
     returns)
