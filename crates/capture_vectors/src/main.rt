@@ -91,6 +91,22 @@ fn played_back_and_shown() {
     playback(1, &MISCOUNTED);
 }
 
+// 7/14: the alarm states are true at the end. A1 is written to 0, where M1 is, and then above it; A2 below it, and then out of range.
+fn played_back_to_alarms() {
+    playback(
+        1,
+        b"\x01\x06\x00\x0C\x00\x00\x49\xC9\x00\x08\x00\x01\x00\x00\x00\x00",
+    );
+    playback(
+        1,
+        b"\x01\x06\x00\x0C\x00\x00\x49\xC9\x00\x08\x01\x06\x00\x0C\x00\x01\x88\x09\x00\x08\x00\x02\x00\x00\x00\x0A",
+    );
+    playback(
+        1,
+        b"\x01\x10\x00\x0E\x00\x01\x02\xFF\xFF\xA6\xCE\x00\x0B\x01\x06\x00\x0E\x27\x10\xF2\x35\x00\x08\x00\x02\x00\x00\x00\x0D",
+    );
+}
+
 // 4/14: the last write to the offset, and to the filter, which has none; with damage in front of the one; and where the count is wrong.
 fn last_written() {
     last_write(1, PB, &THREE_WRITES);
@@ -103,5 +119,6 @@ fn last_written() {
 
 fn main() {
     played_back_and_shown();
+    played_back_to_alarms();
     last_written();
 }
