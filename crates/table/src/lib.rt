@@ -41,11 +41,11 @@ fn entry_at(table: &[i32], i: usize) -> i32
 }
 
 // An entry takes a value. Nothing happens past the table's end.
-fn set_entry(table: &mut [i32], i: usize, value: i32)
-    ensures { λ r. ⌜ now (table .exit) ≡ set (now (table .entry)) i value ⌝ }
+fn set_entry(table: &mut [i32], place: usize, value: i32)
+    ensures { λ r. ⌜ now (table .exit) ≡ set (now (table .entry)) place value ⌝ }
 {
-    if i < table.len() {
-        table[i] = value;
+    if place < table.len() {
+        table[place] = value;
     }
 }
 

@@ -18,7 +18,7 @@ returns : tie.Need-returns
 returns c = search needs
 
 returns-2 : tie.Need-returns-2
-returns-2 c = sym (set-out (c .before .args .table .now) (c .before .args .i) (c .before .args .value) (c .if1 .left))
+returns-2 c = sym (set-out (c .before .args .table .now) (c .before .args .place) (c .before .args .value) (c .if1 .left))
 
 pub set-entry-spec : {M : Type 1} → statement M
 set-entry-spec = tie.close (tie.spec mul-value slice-set-from-value same-length returns returns-2)
