@@ -4,6 +4,7 @@ import signal
 import sys
 
 import ascii_checks
+import lamp_checks
 import modbus_checks
 import playback_checks
 import program_checks
@@ -33,6 +34,7 @@ def main():
         record_checks.run(checks, command, (Mbpoll, Pymodbus))
         playback_checks.run(checks, command)
         rkc_checks.run(checks, command)
+        lamp_checks.run(checks, command, (Mbpoll, Pymodbus, PymodbusAscii))
     except SystemExit:
         checks.fail("the rest", "broken off")
     checks.total()

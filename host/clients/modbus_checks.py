@@ -88,8 +88,8 @@ def spoilt(checks, client):
             refuses(checks, client, name, ILLEGAL_ADDRESS, write)
 
 
-def lamps(checks, client):
-    """AA and AB are worked out: 1 exactly when M1, which is 0, is at or above A1 or A2."""
+def alarm_states(checks, client):
+    """AA and AB are kept true: 1 exactly when M1, which is 0, is at or above A1 or A2."""
     for alarm_1, alarm_2, expected in ((0, 1, [1, 0]), (1, 0, [0, 1])):
         client.write(panel.item("A1").register, alarm_1)
         client.write(panel.item("A2").register, alarm_2)
@@ -119,7 +119,7 @@ def run(checks, command, client_of):
             writes(checks, client)
             together(checks, client)
             spoilt(checks, client)
-            lamps(checks, client)
+            alarm_states(checks, client)
             refusals(checks, client)
             client.own_checks(checks)
         checks.same("end of the simulator", simulator.end(), 0)

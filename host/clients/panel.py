@@ -7,8 +7,8 @@ Item = namedtuple("Item", "name register writable decimals low high start")
 
 ITEMS = (
     Item("M1", 0x0000, False, 1, -1999, 9999, 0),
-    Item("AA", 0x0001, False, 0, 0, 0, 0),
-    Item("AB", 0x0002, False, 0, 0, 0, 0),
+    Item("AA", 0x0001, False, 0, 0, 1, 0),
+    Item("AB", 0x0002, False, 0, 0, 1, 0),
     Item("B1", 0x0003, False, 0, 0, 1, 0),
     Item("ER", 0x0004, False, 0, 0, 255, 0),
     Item("S1", 0x000B, True, 1, -1999, 9999, 0),
@@ -83,3 +83,8 @@ def text_of(row, value):
     """A value as the panel writes it: six characters, a minus first, zeros on the left."""
     number = Decimal(value).scaleb(-row.decimals)
     return format(number, f"0{TEXT_LENGTH}.{row.decimals}f")
+
+
+def number_of(text):
+    """The number that the panel wrote so, its point left out."""
+    return int(text.replace(".", ""))

@@ -59,6 +59,31 @@ PASSED_OVER = [
 # PR is set to 1008, and F1 to 8.
 TOGETHER = frame_of(1, bytes.fromhex("10 00 11 00 02 04 03 F0 00 08"))
 
+# Frames that set the alarms around M1, which is 0, or try to, and the items that they leave at
+# values other than those of the start.
+ALARMS = {
+    "A1 above M1": ([setting("A1", 1)], {"A1": 1}),
+    "A1 at M1": ([setting("A1", 0)], {"A1": 0, "AA": 1}),
+    "A2 above M1": ([setting("A2", 1)], {"A2": 1}),
+    "A2 at M1": ([setting("A2", 0)], {"A2": 0, "AB": 1}),
+    "both below M1": (
+        [setting("A1", -1), setting("A2", -1999)],
+        {"A1": -1, "A2": -1999, "AA": 1, "AB": 1},
+    ),
+    "A1 at M1, then above it": ([setting("A1", 0), setting("A1", 1)], {"A1": 1}),
+    "A1 at M1, then again": ([setting("A1", 0), setting("A1", 0)], {"A1": 0, "AA": 1}),
+    "S1 and A1 together": (
+        [frame_of(1, bytes.fromhex("10 00 0B 00 02 04 00 05 00 00"))],
+        {"S1": 5, "A1": 0, "AA": 1},
+    ),
+    "A1 together with an S1 out of range": (
+        [frame_of(1, bytes.fromhex("10 00 0B 00 02 04 7F FF 00 00"))],
+        {},
+    ),
+    "A1 at another address": ([setting("A1", 0, address=2)], {}),
+    "AA and AB themselves": ([setting("AA", 1), setting("AB", 1)], {}),
+}
+
 # The parts of the capture of FRAMES, and what is shown where a bit in one is wrong: the table, and
 # the last write to PB, which is in the last record, to F1, which is in the third, and to S1.
 ANSWERED_BEHIND = (BAD_CAPTURE, found(-8, 1), found(6, 2), BAD_CAPTURE)
@@ -112,6 +137,15 @@ def last_writes(checks, playback):
         checks.same("no last write in no record", got, [never(0)] * len(panel.ITEMS))
 
 
+def alarm_states(checks, playback):
+    """AA and AB are true in the table, though no frame writes them."""
+    for name, (frames, left) in ALARMS.items():
+        with file_with(capture(frames)) as path:
+            got = (playback.table(path), playback.last(path, "AA"), playback.last(path, "AB"))
+            none = never(len(frames))
+            checks.same(name, got, (table(**left), none, none))
+
+
 def longest(checks, playback):
     frames = nearly_full(244)
     with file_with(capture(frames)) as path:
@@ -161,6 +195,6 @@ def bad(checks, playback):
 
 def run(checks, command):
     playback = Playback(command)
-    for part in (command_line, good, last_writes, longest, damaged, bad):
+    for part in (command_line, good, last_writes, alarm_states, longest, damaged, bad):
         with checks.of("playback"):
             part(checks, playback)

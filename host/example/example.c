@@ -1,11 +1,12 @@
 /* A panel on three lines, as firmware would run it: what it keeps, and what it does at the start,
- * for each byte of the RKC line, while that line is silent, for each frame of the Modbus RTU line,
- * and for each byte of the Modbus ASCII line.
+ * for each measured value, for each byte of the RKC line, while that line is silent, for each frame
+ * of the Modbus RTU line, for each byte of the Modbus ASCII line, and for its two lamps.
  *
  * main() plays the outside world: a host sets the offset and asks for it, then falls silent; it
  * tries again to set it, and a byte is damaged on the way; another host tries the RTU line; a third
  * one asks for the offset on the ASCII line, twice, since a byte of the first line is damaged. In
- * firmware its calls come from the serial drivers and the clock. */
+ * the end alarm 1 is set to the measured value, which then rises to alarm 2 and falls below both.
+ * In firmware its calls come from the serial drivers, the clock and the measuring. */
 #include "vennebruis.h"
 
 /* Of the C library. Declared here, since a cross compiler may come without its headers. */
@@ -48,6 +49,12 @@ static void start(void) {
 /* A new measured value, with its point left out: 12.5 is 125. */
 static void measured(int32_t value) {
     act_on("put", vb_put(table, VB_TABLE_ENTRIES, VB_M1, value));
+}
+
+/* The lamp routine. What the lamps are to show stands in the table, so it makes no call. Here they
+ * are shown as text. */
+static void show_lamps(void) {
+    printf("lamps AA %d, AB %d\n", (int)table[VB_AA - 1], (int)table[VB_AB - 1]);
 }
 
 /* A byte has come on the RKC line. */
@@ -108,9 +115,12 @@ int main(void) {
     /* The loopback test, and a read of register 0010H, the offset. */
     static const uint8_t loopback[] = {0x01, 0x08, 0x00, 0x00, 0x1F, 0x34, 0xE9, 0xEC};
     static const uint8_t read_offset[] = {0x01, 0x03, 0x00, 0x10, 0x00, 0x01, 0x85, 0xCF};
+    /* A write of 12.5 to register 000CH, alarm 1. */
+    static const uint8_t set_alarm[] = {0x01, 0x06, 0x00, 0x0C, 0x00, 0x7D, 0x89, 0xE8};
 
     start();
     measured(125);
+    show_lamps();
     all_received(heard, sizeof heard, 1000);
     rkc_silent(3999);
     rkc_silent(4000);
@@ -125,5 +135,12 @@ int main(void) {
     ascii_damaged();
     text_received("0001EB\r\n");
     text_received(":010300100001EB\r\n");
+    /* Alarm 1 comes down from 50.0, where alarm 2 stays. */
+    rtu_received(set_alarm, sizeof set_alarm);
+    show_lamps();
+    measured(500);
+    show_lamps();
+    measured(124);
+    show_lamps();
     return 0;
 }

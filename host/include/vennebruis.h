@@ -24,14 +24,25 @@
  *   said of a capture. Any other number tells what the host did; firmware needs to act on none of
  *   them.
  *
+ * The lamps
+ *   Entries 2 and 3 of the table are the alarm states: AA is 1 exactly when M1 is at least A1, AB
+ *   exactly when M1 is at least A2, else each is 0. vb_start_table sets them so, and every call
+ *   that alters M1, A1 or A2 keeps them true: a host's write on any line, a playback, a put. A lamp
+ *   routine therefore reads table[VB_AA - 1] and table[VB_AB - 1], and makes no call. It may do so
+ *   at any time between two calls; what stands there while a call is under way is not promised.
+ *
+ *   Firmware sets M1, A1 and A2 by vb_put. Were it to write their entries itself, AA and AB might
+ *   not be true any more, and each call that looks at the table would refuse it (2). A table that
+ *   is saved and restored comes back with these two entries, for the same reason.
+ *
  * The way out of 2 and of 5
- *   Once an entry of the table lies outside its range, every call that looks at the table gives 2,
- *   and a put does not mend it. The table is firmware's own memory: it writes the bad entries
- *   itself, each within its range (enum vb_item has them), or calls vb_start_table, which sets all
- *   entries and so drops all settings. Settings that are read back from where they may have been
- *   damaged are best brought within their ranges before the first call. A link state that gives 5
- *   is set to the start by vb_start_link; what the host was about is lost, and it begins anew by
- *   EOT.
+ *   Once an entry of the table lies outside its range, or AA or AB is not true, every call that
+ *   looks at the table gives 2, and a put does not mend it. The table is firmware's own memory: it
+ *   writes the bad entries itself, each within its range (enum vb_item has them), and then AA and
+ *   AB as M1, A1 and A2 have it; or it calls vb_start_table, which sets all entries and so drops
+ *   all settings. Settings that are read back from where they may have been damaged are best
+ *   mended in this way before the first call. A link state that gives 5 is set to the start by
+ *   vb_start_link; what the host was about is lost, and it begins anew by EOT.
  *
  * When a reply may be overwritten
  *   A call with a reply writes it from the front of the buffer, and which call has one can't be
@@ -89,12 +100,12 @@ enum vb_number {
 
     /* The caller's faults: no reply, nothing changed. */
     VB_WRONG_LENGTH = 1,      /* the table does not have VB_TABLE_ENTRIES entries */
-    VB_ENTRY_OUTSIDE = 2,     /* an entry of the table lies outside its item's range */
+    VB_ENTRY_OUTSIDE = 2,     /* an entry lies outside its item's range, or AA or AB is not true */
     VB_SHORT_BUFFER = 3,      /* reply buffer under VB_REPLY_BYTES, or text under VB_TEXT_BYTES */
     VB_BAD_SETTING = 4,       /* address over 99, or 0 for Modbus and captures; structure over 2 */
     VB_BAD_STATE = 5,         /* the link state is outside its limits, or not VB_STATE_BYTES long */
     VB_NO_SUCH_ITEM = 6,      /* put, last write: the item number is not 1 to 12 */
-    VB_VALUE_OUTSIDE = 7,     /* put: the value lies outside the item's range */
+    VB_VALUE_OUTSIDE = 7,     /* put: the item is AA or AB, or the value lies outside its range */
     VB_DOES_NOT_FIT = 8,      /* writing text: the value does not fit six characters */
     VB_TOO_MANY_DECIMALS = 9, /* number text: more than three decimals */
 
@@ -137,12 +148,12 @@ enum vb_number {
 
 /* The items. Entry n - 1 of the table holds item n as a whole number with the point left out: M1
  * at 12.5 is 125. Behind each: register, what the host may do, decimals on the RKC line, range,
- * start value. "Write" items may be read too. Entries 2 and 3 stay 0: what AA and AB answer is
- * worked out each time, 1 where M1 has reached A1 or A2, else 0. */
+ * start value. "Write" items may be read too. AA and AB follow M1, A1 and A2, as stands at the top;
+ * neither the host nor a put sets them. */
 enum vb_item {
     VB_M1 = 1,  /* measured value: 0000H, read, 1, -1999 to 9999, 0 */
-    VB_AA = 2,  /* alarm 1 state: 0001H, read, 0, 0 to 0, 0 */
-    VB_AB = 3,  /* alarm 2 state: 0002H, read, 0, 0 to 0, 0 */
+    VB_AA = 2,  /* alarm 1 state: 0001H, read, 0, 0 to 1, 0 */
+    VB_AB = 3,  /* alarm 2 state: 0002H, read, 0, 0 to 1, 0 */
     VB_B1 = 4,  /* burnout: 0003H, read, 0, 0 to 1, 0 */
     VB_ER = 5,  /* error code: 0004H, read, 0, 0 to 255, 0 */
     VB_S1 = 6,  /* set value: 000BH, write, 1, -1999 to 9999, 0 */
@@ -235,9 +246,9 @@ uint32_t vb_start_link(uint8_t *state, uint64_t n);
  * of them.
  *
  * Gives 0, 1 to 5, 11 to 18, 41, 42, 43 or 45; 46 is never met. Where there is a reply, it is an
- * item (11 bytes) or one of ACK, NAK and EOT (1 byte). The state goes on to the next phase; the
- * table changes in one entry where a block is answered by ACK, and stays otherwise. With 1 to 5
- * state, table and buffer stay. */
+ * item (11 bytes) or one of ACK, NAK and EOT (1 byte). The state goes on to the next phase. Where a
+ * block is answered by ACK, the table changes in the item's entry, and in that of AA or AB where it
+ * would no longer be true; else it stays. With 1 to 5 state, table and buffer stay. */
 uint32_t vb_byte(uint8_t *state, uint64_t sn, int32_t *table, uint64_t tn, uint8_t *reply,
                  uint64_t rn, uint8_t address, uint8_t structure, uint32_t now, uint8_t byte);
 
@@ -277,9 +288,9 @@ uint32_t vb_idle(uint8_t *state, uint64_t sn, uint8_t *reply, uint64_t rn, uint8
  * 03H then tries the quantity (33) before the registers (32), 06H the register (32) before the
  * value (33). 10H asks for a quantity of 1 to 123, a byte count of twice that and a frame of nine
  * bytes more (33), then tries every register of its span (32) before any value (33). The table
- * changes in one entry where 06H gives 0 and in one for each register where 10H does, and stays
- * otherwise: no setting of a message is stored before all of them are judged. With 1 to 4 and 21 to
- * 23 there is no reply. */
+ * changes in one entry where 06H gives 0 and in one for each register where 10H does, and with them
+ * in that of AA or AB where it would no longer be true. It stays otherwise: no setting of a message
+ * is stored before all of them are judged. With 1 to 4 and 21 to 23 there is no reply. */
 uint32_t vb_rtu(int32_t *table, uint64_t tn, uint8_t *reply, uint64_t rn, uint8_t address,
                 const uint8_t *frame, uint64_t fn);
 
@@ -320,14 +331,14 @@ uint32_t vb_ascii(int32_t *table, uint64_t tn, uint8_t *reply, uint64_t rn, uint
                   const uint8_t *line, uint64_t ln);
 
 /* Sets an item from the firmware: a measured value, an error code, a setting made at the panel.
- * Every item may be set, within its range.
+ * Every item but AA and AB may be set, within its range.
  *
  * item        enum vb_item, 1 to 12
  * value       the number with its point left out
  *
- * Gives 0, 1, 2, 6 or 7. With 0 the item's entry is the value and all others stay; else the table
- * stays. An entry outside its range is 2 here too, also where this very put would mend it; the way
- * out stands at the top. */
+ * Gives 0, 1, 2, 6 or 7; for AA and AB it is 7 whatever the value. With 0 the item's entry is the
+ * value, AA and AB are true of it, and all others stay; else the table stays. A bad entry is 2 here
+ * too, also where this very put would mend it; the way out stands at the top. */
 uint32_t vb_put(int32_t *table, uint64_t tn, uint32_t item, int32_t value);
 
 /* Reads number text as the RKC line does: at most six characters, a minus first if any, digits with
@@ -387,7 +398,8 @@ uint32_t vb_show(const uint8_t *capture, uint64_t cn, uint32_t frame, uint32_t *
  *
  * Gives 0, or the first of 4, 6 and 51 with value and records 0. VB_FOUND of the result is 1 where
  * there is such a frame. Where it is 0 with the number 0, the item was never written, all records
- * were read, and the value is 0 (and not the start value, at which vb_playback leaves the item).
+ * were read, and the value is 0 (and not the start value, at which vb_playback leaves the item; AA
+ * and AB, which no frame writes, it leaves as A1 and A2 have them).
  *
  * Damage in front of the record that answers is not noticed, and the trailer's number of records is
  * looked at only where none answers. So 0 with a write found is no proof that the capture is well

@@ -2,6 +2,8 @@
  * counted: link CASE, and behind it ascii for a request that is to go as a line, or the capture for
  * the case playback, show or last-write. Whatever has these functions can be linked to it.
  *
+ * M1 is 123.4 before, put there by the link. A case that is none makes no other call.
+ *
  * It prints where the counted functions stand, for each call that gave something the number and the
  * reply, the table, the place and length or the last write, how many bytes it handed over, and how
  * many frames and bytes the capture has. */
@@ -57,6 +59,13 @@ static void show(uint32_t result) {
     printf("\n");
 }
 
+static void show_table(uint32_t number) {
+    printf("gave %u:", (unsigned)number);
+    for (size_t i = 0; i < VB_TABLE_ENTRIES; i++)
+        printf(" %d", (int)table[i]);
+    printf("\n");
+}
+
 static void rtu(const struct request *request) {
     handed_over += (unsigned)request->n;
     show(vb_rtu(table, VB_TABLE_ENTRIES, reply, sizeof reply, ADDRESS, request->bytes, request->n));
@@ -87,22 +96,61 @@ static void poll(void) {
     bytes("\x06\x06\x06\x06\x06\x06\x06\x06\x06\x06\x06\x06");
 }
 
+static void call_address(void) {
+    bytes("\x04"
+          "01");
+}
+
+/* A block without its BCC. */
+static void open_block(const char *text) {
+    bytes("\x02");
+    bytes(text);
+    bytes("\x03");
+}
+
+static void end_block(const char *text) {
+    uint8_t bcc = 0x03;
+    for (size_t i = 0; i < strlen(text); i++)
+        bcc ^= (uint8_t)text[i];
+    byte(bcc);
+}
+
 /* Every item that can be written is written, block by block. */
 static void select_items(void) {
     static const char *const texts[] = {"S10123.4", "A1-199.9", "A20999.9", "PB-01.50",
                                         "PR01.250", "F1000010", "TM000123"};
-    bytes("\x04"
-          "01");
+    call_address();
     for (size_t i = 0; i < sizeof texts / sizeof texts[0]; i++) {
-        uint8_t bcc = 0x03;
-        for (size_t c = 0; c < strlen(texts[i]); c++)
-            bcc ^= (uint8_t)texts[i][c];
-        bytes("\x02");
-        bytes(texts[i]);
-        bytes("\x03");
-        byte(bcc);
+        open_block(texts[i]);
+        end_block(texts[i]);
     }
 }
+
+/* A1 is written as by the requests. What the second case takes more than the first is the BCC, at
+ * which the value is stored. */
+static const char alarm_text[] = "A10123.5";
+
+static void alarm_without_bcc(void) {
+    call_address();
+    open_block(alarm_text);
+}
+
+static void alarm_block(void) {
+    alarm_without_bcc();
+    end_block(alarm_text);
+}
+
+static void put(uint32_t item, int32_t value) {
+    show_table(vb_put(table, VB_TABLE_ENTRIES, item, value));
+}
+
+/* Below A1 and A2, which M1 has reached before. */
+static void put_measured(void) { put(VB_M1, 499); }
+
+static void put_code(void) { put(VB_ER, 255); }
+
+/* Refused for the item (6), behind the table check. */
+static void put_nothing(void) { put(0, 0); }
 
 static const struct request *request_of(const char *name) {
     for (size_t i = 0; i < REQUESTS; i++)
@@ -128,11 +176,7 @@ static void make_capture(const char *name) {
 }
 
 static void playback(void) {
-    uint32_t number = vb_playback(table, VB_TABLE_ENTRIES, ADDRESS, capture.bytes, capture.n);
-    printf("gave %u:", (unsigned)number);
-    for (size_t i = 0; i < VB_TABLE_ENTRIES; i++)
-        printf(" %d", (int)table[i]);
-    printf("\n");
+    show_table(vb_playback(table, VB_TABLE_ENTRIES, ADDRESS, capture.bytes, capture.n));
 }
 
 static void show_first(void) {
@@ -149,14 +193,28 @@ static void last_write(void) {
            (int)value, (unsigned)records);
 }
 
+/* All that is no request. */
+static const struct {
+    const char *name;
+    void (*calls)(void);
+} cases[] = {
+    {"known", ten_rounds_twice},  {"poll", poll},
+    {"select", select_items},     {"alarm-without-bcc", alarm_without_bcc},
+    {"alarm-block", alarm_block}, {"put-measured", put_measured},
+    {"put-code", put_code},       {"put-nothing", put_nothing},
+    {"playback", playback},       {"show", show_first},
+    {"last-write", last_write},
+};
+
 int main(int argc, char **argv) {
     const char *name = argc > 1 ? argv[1] : "";
     const char *behind = argc > 2 ? argv[2] : "";
     printf("at vb_rtu %lx\nat vb_ascii %lx\nat vb_byte %lx\nat ten_rounds_twice %lx\n",
            (unsigned long)vb_rtu, (unsigned long)vb_ascii, (unsigned long)vb_byte,
            (unsigned long)ten_rounds_twice);
-    printf("at vb_playback %lx\nat vb_show %lx\nat vb_last_write %lx\n", (unsigned long)vb_playback,
-           (unsigned long)vb_show, (unsigned long)vb_last_write);
+    printf("at vb_put %lx\nat vb_playback %lx\nat vb_show %lx\nat vb_last_write %lx\n",
+           (unsigned long)vb_put, (unsigned long)vb_playback, (unsigned long)vb_show,
+           (unsigned long)vb_last_write);
     vb_start_table(table, VB_TABLE_ENTRIES);
     vb_start_link(link_state, sizeof link_state);
     vb_put(table, VB_TABLE_ENTRIES, VB_M1, 1234);
@@ -165,18 +223,9 @@ int main(int argc, char **argv) {
     const struct request *request = request_of(name);
     if (request != NULL)
         (strcmp(behind, "ascii") == 0 ? ascii : rtu)(request);
-    if (strcmp(name, "known") == 0)
-        ten_rounds_twice();
-    if (strcmp(name, "poll") == 0)
-        poll();
-    if (strcmp(name, "select") == 0)
-        select_items();
-    if (strcmp(name, "playback") == 0)
-        playback();
-    if (strcmp(name, "show") == 0)
-        show_first();
-    if (strcmp(name, "last-write") == 0)
-        last_write();
+    for (size_t i = 0; i < sizeof cases / sizeof cases[0]; i++)
+        if (strcmp(name, cases[i].name) == 0)
+            cases[i].calls();
     printf("bytes %u\nframes %u\ncapture %u\n", handed_over, (unsigned)capture.frames,
            (unsigned)capture.n);
     return 0;

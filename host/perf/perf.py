@@ -25,6 +25,8 @@ ROWS = {
     "write, CRC apart": "the same, both CRCs apart",
     "write-three": "write of three registers (10H)",
     "write-three, CRC apart": "the same, both CRCs apart",
+    "write-alarm": "write of A1 (06H), which alters AA",
+    "write-alarm-10H": "the same by 10H",
     "loopback": "loopback (08H)",
     "loopback, CRC apart": "the same, both CRCs apart",
     "CRC": "CRC, per byte",
@@ -35,6 +37,10 @@ ROWS = {
     "poll": "RKC: all items polled, per byte",
     "select": "RKC: all settings written, per byte",
     "session": "RKC: one after the other, per byte",
+    "alarm-block": "RKC: the BCC of a block that sets A1, which alters AA",
+    "put-measured": "put of M1, which alters AA and AB",
+    "put-code": "put of ER",
+    "put-nothing": "put of no item (6), which is the table check",
     "full": "playback of 21,843 frames of one byte",
     "half": "playback of 10,921 frames of one byte",
     "writes": "playback of 6,553 writes (06H), per write",
@@ -61,9 +67,10 @@ LAST_WRITES = {
 # capture for each of them would take four times as much.
 MOST_GROWTH = 2.5
 
-# The requests that libmodbus knows, too, and all of them.
-SHARED = ["read", "write", "write-three"]
+# The requests that libmodbus knows, too, all of them, and those that go as lines of ASCII as well.
+SHARED = ["read", "write", "write-three", "write-alarm", "write-alarm-10H"]
 REQUESTS = [*SHARED, "loopback"]
+LINES = ["read", "write", "write-three", "loopback"]
 
 
 def replies(printed):
@@ -91,9 +98,9 @@ def modbus(program, functions, cases):
 
 
 def lines(program):
-    """The instructions of the same requests as lines of ASCII, and what came back."""
+    """The instructions of some of them as lines of ASCII, and what came back."""
     figures, gave = {}, {}
-    for case in REQUESTS:
+    for case in LINES:
         row = f"{case}, ASCII"
         figures[row], printed = count([*program, case, "ascii"], ["vb_ascii"])
         gave[row] = replies(printed)
@@ -109,6 +116,25 @@ def rkc(program):
         gave[case] = replies(printed)
     figures = {case: totals[case] / lengths[case] for case in totals}
     figures["session"] = sum(totals.values()) / sum(lengths.values())
+    return figures, gave
+
+
+def alarm_block(program):
+    """The instructions of the byte that ends a block, and what came back."""
+    before = count([*program, "alarm-without-bcc"], ["vb_byte"])[0]
+    whole, printed = count([*program, "alarm-block"], ["vb_byte"])
+    return {"alarm-block": whole - before}, {"alarm-block": replies(printed)}
+
+
+def puts(program):
+    """The instructions of a put, and what came back. Each run begins with a put of M1, which is
+    taken off."""
+    figures, gave = {}, {}
+    before = count(program, ["vb_put"])[0]
+    for case in ("put-measured", "put-code", "put-nothing"):
+        total, printed = count([*program, case], ["vb_put"])
+        figures[case] = total - before
+        gave[case] = replies(printed)
     return figures, gave
 
 
@@ -140,11 +166,12 @@ def last_writes(program):
 def link(program, file):
     """All figures of an implementation with the C functions of the link."""
     figures, gave = modbus(program, ["vb_rtu"], REQUESTS)
-    for part in (lines, rkc, captures, last_writes):
+    for part in (lines, rkc, alarm_block, puts, captures, last_writes):
         more, gave_more = part(program)
         figures, gave = figures | more, gave | gave_more
-    if not all(given[0].startswith("0:") for given in gave.values()):
-        raise SystemExit(f"perf: a request or a capture is refused: {gave}")
+    refused = [case for case, given in gave.items() if not given[0].startswith("0:")]
+    if refused != ["put-nothing"]:
+        raise SystemExit(f"perf: what is refused is {refused}: {gave}")
     return figures | sizes.both(file), gave
 
 

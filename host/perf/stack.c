@@ -121,12 +121,14 @@ static void idle(uint64_t now) {
                                  VB_TOP_BIT_ZERO, now});
 }
 
-/* A setting by a block, a poll of all items by ACK, polls of one after which the host repeats,
- * falls silent or says something else, and what is refused. */
+/* Settings by blocks, of which one alters AA; a poll of all items by ACK, polls of one after which
+ * the host repeats, falls silent or says something else, and what is refused. */
 static void rkc(void) {
     bytes("\x04"
           "01\x02PB-01.50\x03\x16");
     bytes("\x02PB-01.50\x03\x17");
+    bytes("\x02"
+          "A1-199.9\x03\x78");
     bytes("\x02XX1\x03\x32");
     bytes("\x04"
           "01M1\x05\x06\x06\x06\x06\x06\x06\x06\x06\x06\x06\x06\x06");
@@ -159,7 +161,7 @@ static void requested(void) {
     }
 }
 
-/* Each item at each of three values, of which one may be set. */
+/* Each item at three values: most are set by one of them and refused for another. */
 static void put(void) {
     for (uint32_t item = 0; item <= VB_TABLE_ENTRIES + 1; item++)
         for (int32_t value = -2000; value <= 2000; value += 2000)

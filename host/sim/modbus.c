@@ -13,4 +13,5 @@ void modbus_answer(const struct mode *mode, struct panel *panel, const struct li
         show_number(VB_NUMBER(result));
         mode->show(stderr, "reply", (struct bytes){panel->reply, length});
     }
+    lamps_follow(&panel->lamps, panel->table, options->show);
 }

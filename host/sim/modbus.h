@@ -17,7 +17,8 @@ struct mode {
     void (*show)(FILE *to, const char *title, struct bytes bytes);
 };
 
-/* Hands a message to the panel, sends the reply, and shows them where that is asked for. */
+/* Hands a message to the panel, sends the reply, shows them where that is asked for, and lets the
+   lamps follow. */
 void modbus_answer(const struct mode *mode, struct panel *panel, const struct line *line,
                    const struct options *options, struct bytes message);
 

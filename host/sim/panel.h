@@ -1,4 +1,4 @@
-/* The panel that is played: what the library is lent, and how it is spoken to. */
+/* The panel that is played: what the library is lent, the lamps, and how it is spoken to. */
 #ifndef PANEL_H
 #define PANEL_H
 
@@ -6,6 +6,7 @@
 #include <stddef.h>
 #include <stdint.h>
 
+#include "lamps.h"
 #include "line.h"
 #include "options.h"
 #include "recording.h"
@@ -15,6 +16,7 @@ struct panel {
     int32_t table[VB_TABLE_ENTRIES];
     uint8_t state[VB_STATE_BYTES];
     uint8_t reply[VB_REPLY_BYTES];
+    struct lamps lamps; /* both off at the start, as the start table has them */
 };
 
 /* Answers until the line ends. False where a frame could not be recorded: it is not answered, nor

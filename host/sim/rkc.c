@@ -33,15 +33,16 @@ static void show(struct request *request, unsigned number, struct bytes reply) {
     request->length = 0;
 }
 
-/* Sends what a step replied, and shows a step that did something. */
-static void finish(const struct panel *panel, const struct line *line,
-                   const struct options *options, struct request *request, uint32_t result) {
+/* Sends what a step replied, shows a step that did something, and lets the lamps follow. */
+static void finish(struct panel *panel, const struct line *line, const struct options *options,
+                   struct request *request, uint32_t result) {
     unsigned number = VB_NUMBER(result);
     size_t length = VB_LENGTH(result);
     line_send(line, panel->reply, length);
     if (options->show && (number != 0 || length > 0 || request->length == REQUEST_ROOM)) {
         show(request, number, (struct bytes){panel->reply, length});
     }
+    lamps_follow(&panel->lamps, panel->table, options->show);
 }
 
 static void take(struct panel *panel, const struct line *line, const struct options *options,

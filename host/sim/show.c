@@ -10,7 +10,7 @@ struct row {
 static const struct row meanings[] = {
     {0, "no fault"},
     {1, "table not twelve entries long"},
-    {2, "table entry outside its range"},
+    {2, "table entry outside its range, or an alarm state that is not true"},
     {3, "reply buffer under 256 bytes"},
     {4, "address or structure outside its limits"},
     {5, "link state outside its limits"},
@@ -101,4 +101,8 @@ void show_characters(const char *title, struct bytes bytes) {
 void show_number(unsigned number) {
     const char *words = find(meanings, sizeof meanings / sizeof meanings[0], number);
     fprintf(stderr, "number  %u, %s\n", number, words != NULL ? words : "not in the list");
+}
+
+void show_lamps(int32_t alarm_1, int32_t alarm_2) {
+    fprintf(stderr, "lamps   AA %d, AB %d\n", alarm_1, alarm_2);
 }

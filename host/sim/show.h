@@ -1,4 +1,5 @@
-/* Traffic, for someone who looks on. Where no file is named, it goes to standard error. */
+/* Traffic and the lamps, for someone who looks on. Where no file is named, they go to standard
+   error. */
 #ifndef SHOW_H
 #define SHOW_H
 
@@ -23,5 +24,8 @@ void show_characters(const char *title, struct bytes bytes);
 
 /* The number given back, in words too. */
 void show_number(unsigned number);
+
+/* Both lamps: 1 is on, 0 is off. */
+void show_lamps(int32_t alarm_1, int32_t alarm_2);
 
 #endif
