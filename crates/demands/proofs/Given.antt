@@ -17,7 +17,7 @@ use Rattle.items.specs.declared.Found.the-variants.{At, Nothing}
 use Rattle.items.specs.ItemList.{items, itemList, found, inRange}
 use Rattle.items.proofs.Lists.{passes-at}
 use Rattle.items.proofs.Lookup.{found-place}
-use Rattle.table.specs.Table.{wrongLength, badEntry, alarm, alarmsAgree, allInRange, tableFault, goodTable, startValues}
+use Rattle.table.specs.Table.{wrongLength, entryOutside, alarm, alarmsAgree, allInRange, tableFault, goodTable, startValues}
 use Rattle.line.specs.Line.{keeps, heard}
 use Rattle.text.specs.Reading.{readNumber, readValue}
 use Rattle.phases.specs.Decision.{decided}
@@ -65,10 +65,10 @@ tested ms false n e = λ _. e
 table-fault : (t : List ℤ) → IfMet byteFaults (tableFault t)
 unfolding tableFault
 table-fault t =
-    let alarms = unless (alarmsAgree t) badEntry ∷ [] in
-    each _ (unless (allInRange itemList t) badEntry ∷ alarms) (IfMet byteFaults) (tested byteFaults (eqb (length t) items) wrongLength refl)
-    (each _ alarms (IfMet byteFaults) (tested byteFaults (allInRange itemList t) badEntry refl)
-    (each _ [] (IfMet byteFaults) (tested byteFaults (alarmsAgree t) badEntry refl) (none-met byteFaults)))
+    let alarms = unless (alarmsAgree t) entryOutside ∷ [] in
+    each _ (unless (allInRange itemList t) entryOutside ∷ alarms) (IfMet byteFaults) (tested byteFaults (eqb (length t) items) wrongLength refl)
+    (each _ alarms (IfMet byteFaults) (tested byteFaults (allInRange itemList t) entryOutside refl)
+    (each _ [] (IfMet byteFaults) (tested byteFaults (alarmsAgree t) entryOutside refl) (none-met byteFaults)))
 
 step-fault : (ms : List ℕ) → oneOf ms shortBuffer ≡ true → oneOf ms badSetting ≡ true → oneOf ms badState ≡ true
     → (l : Link) (room : ℕ) (settings : Bool) → IfMet ms (stepFault l room settings)

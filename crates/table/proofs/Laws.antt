@@ -17,7 +17,7 @@ use Rattle.numbers.specs.Promise.{Lent}
 use Rattle.numbers.proofs.Tests.{contrary, both, chosen}
 use Rattle.numbers.proofs.Order.{none-met, test-held}
 use Rattle.items.specs.ItemList.{Item, items, listed, itemList, noItem, itemAt, fromLowToHigh, inRange}
-use Rattle.table.specs.Table.{wrongLength, badEntry, noSuchItem, valueOutside, entry, AA, AB, A1, A2, isAlarmState, alarm}
+use Rattle.table.specs.Table.{wrongLength, entryOutside, noSuchItem, valueOutside, entry, AA, AB, A1, A2, isAlarmState, alarm}
 use Rattle.table.specs.Table.{alarmsAgree, alarmsKept, allInRange, tableFault, goodTable, startValues, stored, mayPut}
 use Rattle.table.specs.Table.{putNumber, putTable, AlarmsTrue}
 use Rattle.table.proofs.Alarms.{alarm-is, agree-true, kept-length, kept-other, kept-agree, others-decide}
@@ -34,14 +34,14 @@ good-parts : (t : List ℤ) → goodTable t ≡ true → Good t
 unfolding tableFault
 good-parts t g =
     let long = unless (eqb (length t) items) wrongLength in
-    let ranged = unless (allInRange itemList t) badEntry in
-    let alarms = unless (alarmsAgree t) badEntry in
+    let ranged = unless (allInRange itemList t) entryOutside in
+    let alarms = unless (alarmsAgree t) entryOutside in
     let after-none = none-met long (ranged ∷ alarms ∷ []) (eqb-true (tableFault t) none g) in
     let after-long = none-met ranged (alarms ∷ []) (after-none .1) in
     record {
       twelve = eqb-true _ _ (test-held _ wrongLength (omega arith) (after-none .0));
-      inside = test-held _ badEntry (omega arith) (after-long .0);
-      agree = test-held _ badEntry (omega arith) (none-met alarms [] (after-long .1) .0);
+      inside = test-held _ entryOutside (omega arith) (after-long .0);
+      agree = test-held _ entryOutside (omega arith) (none-met alarms [] (after-long .1) .0);
     }
 
 good-from : {t : List ℤ} → Good t → goodTable t ≡ true

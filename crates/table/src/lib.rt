@@ -19,10 +19,10 @@ const A1: usize = 6;
 
 const A2: usize = 7;
 
-// Numbers given back.
+// Numbers given back. An alarm state that is not true has that of an entry outside, and a put to one that of a value outside.
 pub const WRONG_LENGTH: u8 = 1;
 
-pub const BAD_ENTRY: u8 = 2;
+pub const ENTRY_OUTSIDE: u8 = 2;
 
 pub const NO_SUCH_ITEM: u8 = 6;
 
@@ -107,7 +107,7 @@ fn all_in_range(table: &[i32]) -> bool
     inside
 }
 
-// The table's fault: WRONG_LENGTH, BAD_ENTRY, or NONE. The alarm states have one number with the ranges, so that either may be looked at
+// The table's fault: WRONG_LENGTH, ENTRY_OUTSIDE, or NONE. The alarm states have one number with the ranges, so that either may be looked at
 // first; that they come first costs less.
 pub fn check(table: &[i32]) -> u8
     ensures { λ r. ⌜ r ≡ tableFault (now (table .entry)) ⌝ }
@@ -116,9 +116,13 @@ pub fn check(table: &[i32]) -> u8
         return WRONG_LENGTH;
     }
     if !alarms_agree(table) {
-        return BAD_ENTRY;
+        return ENTRY_OUTSIDE;
     }
-    if all_in_range(table) { NONE } else { BAD_ENTRY }
+    if all_in_range(table) {
+        NONE
+    } else {
+        ENTRY_OUTSIDE
+    }
 }
 
 // ---- what is done with the table

@@ -8,7 +8,7 @@ use lib.IntN.{ℤ}
 use lib.ListN.{length}
 use Rattle.numbers.specs.Numbers.{unless, firstMet}
 use Rattle.items.specs.ItemList.{items, itemList}
-use Rattle.table.specs.Table.{badEntry, alarmsAgree, allInRange, tableFault}
+use Rattle.table.specs.Table.{entryOutside, alarmsAgree, allInRange, tableFault}
 use Rattle.table.proofs.check.Statement.{statement}
 use Rattle.table.proofs.check.Tie as tie
 
@@ -20,11 +20,11 @@ alarms-agree-requires : tie.Need-alarms-agree-requires
 alarms-agree-requires c κs = search needs
 
 -- so it makes no difference which is looked at first
-either-fault : (t : List ℤ) → length t ≡ items → tableFault t ≡ unless (alarmsAgree t && allInRange itemList t) badEntry
+either-fault : (t : List ℤ) → length t ≡ items → tableFault t ≡ unless (alarmsAgree t && allInRange itemList t) entryOutside
 unfolding tableFault
 either-fault t l = rw (eq-eqb _ _ l) (by (allInRange itemList t) (alarmsAgree t))
   where
-    by : (a b : Bool) → firstMet (unless a badEntry ∷ unless b badEntry ∷ []) ≡ unless (b && a) badEntry
+    by : (a b : Bool) → firstMet (unless a entryOutside ∷ unless b entryOutside ∷ []) ≡ unless (b && a) entryOutside
     by true true = refl
     by true false = refl
     by false true = refl
@@ -43,7 +43,7 @@ all-in-range-requires c κs = c .before .before .if1 .left
 -- past the alarm states the ranges decide
 agreed : (c : tie.After-all-in-range) →
     let t = c .before .before .before .before .args .table .now in
-    tableFault t ≡ unless (c .all-in-range .result) badEntry
+    tableFault t ≡ unless (c .all-in-range .result) entryOutside
 agreed c =
     let a = c .before .before in
     let e = a .before in
