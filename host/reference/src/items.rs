@@ -1,4 +1,4 @@
-//! The item list, and what each item answers.
+//! The item list, the check of the lent table, and what storing a value leaves in it.
 
 /// One row of the specification's item list.
 pub struct Item {
@@ -40,8 +40,8 @@ const fn write(id: &[u8; 2], register: u16, decimals: u8, limits: (i32, i32), st
 /// The item list, in its order: the lent table has one entry per item in the same order.
 pub const ITEMS: [Item; 12] = [
     read(b"M1", 0x0000, 1, (-1999, 9999), 0),
-    read(b"AA", 0x0001, 0, (0, 0), 0),
-    read(b"AB", 0x0002, 0, (0, 0), 0),
+    read(b"AA", 0x0001, 0, (0, 1), 0),
+    read(b"AB", 0x0002, 0, (0, 1), 0),
     read(b"B1", 0x0003, 0, (0, 1), 0),
     read(b"ER", 0x0004, 0, (0, 255), 0),
     write(b"S1", 0x000B, 1, (-1999, 9999), 0),
@@ -73,8 +73,17 @@ pub fn with_register(register: u16) -> Option<usize> {
     (1..=12).find(|number| item(*number).register == register)
 }
 
+/// The alarm states, which stand in entries 2 and 3: AA is 1 exactly when M1 has reached A1, AB
+/// exactly when M1 has reached A2, else 0.
+pub fn alarm_states(table: &[i32]) -> [i32; 2] {
+    let m1 = table[0];
+    let a1 = table[6];
+    let a2 = table[7];
+    [i32::from(m1 >= a1), i32::from(m1 >= a2)]
+}
+
 /// The first two numbers given back: 1 where the table is not 12 long, 2 where an entry lies
-/// outside its low and high, else 0.
+/// outside its low and high or where entry 2 or 3 disagrees with M1 and A1 or A2, else 0.
 pub fn table_fault(table: &[i32]) -> u32 {
     if table.len() != 12 {
         return 1;
@@ -84,21 +93,20 @@ pub fn table_fault(table: &[i32]) -> u32 {
             return 2;
         }
     }
+    let [aa, ab] = alarm_states(table);
+    if table[1] != aa || table[2] != ab {
+        return 2;
+    }
     0
 }
 
-/// What an item answers on either line. Entries 2 and 3 stay 0 and their answer is worked out:
-/// AA is 1 exactly when M1 has reached A1, AB exactly when M1 has reached A2. Each other item
-/// answers its entry.
-pub fn answer(table: &[i32], number: usize) -> i32 {
-    let m1 = table[0];
-    let a1 = table[6];
-    let a2 = table[7];
-    match number {
-        2 => i32::from(m1 >= a1),
-        3 => i32::from(m1 >= a2),
-        _ => table[number - 1],
-    }
+/// Stores an item's value, and sets the alarm states anew: every operation that can alter M1, A1 or
+/// A2 keeps them true.
+pub fn store(table: &mut [i32], number: usize, value: i32) {
+    table[number - 1] = value;
+    let [aa, ab] = alarm_states(table);
+    table[1] = aa;
+    table[2] = ab;
 }
 
 #[cfg(test)]
@@ -116,13 +124,28 @@ mod tests {
     }
 
     #[test]
-    fn an_alarm_answers_1_from_its_level_up() {
+    fn an_alarm_state_is_1_from_its_level_up() {
         let mut table = [0, 0, 0, 0, 0, 0, 500, 501, 0, 1000, 0, 0];
-        table[0] = 499;
-        assert_eq!((answer(&table, 2), answer(&table, 3)), (0, 0));
-        table[0] = 500;
-        assert_eq!((answer(&table, 2), answer(&table, 3)), (1, 0));
-        table[0] = 501;
-        assert_eq!((answer(&table, 2), answer(&table, 3)), (1, 1));
+        for (m1, states) in [(499, [0, 0]), (500, [1, 0]), (501, [1, 1])] {
+            table[0] = m1;
+            assert_eq!(alarm_states(&table), states);
+        }
+    }
+
+    #[test]
+    fn the_start_values_are_a_good_table() {
+        let start: Vec<i32> = ITEMS.iter().map(|row| row.start).collect();
+        assert_eq!(table_fault(&start), 0);
+    }
+
+    #[test]
+    fn storing_sets_both_alarm_states_anew() {
+        let mut table = [0, 0, 0, 0, 0, 0, 500, 501, 0, 1000, 0, 0];
+        store(&mut table, 1, 501);
+        assert_eq!(table[..3], [501, 1, 1]);
+        store(&mut table, 7, 502);
+        assert_eq!(table[..3], [501, 0, 1]);
+        store(&mut table, 8, 502);
+        assert_eq!(table[..3], [501, 0, 0]);
     }
 }

@@ -4,7 +4,7 @@
 //! What stands in front of that frame is not looked at, so damage there is not noticed.
 
 use crate::capture::{in_parts, last_frame, number};
-use crate::modbus;
+use crate::{items, modbus};
 
 /// What a capture tells of an item.
 #[derive(Debug, PartialEq, Eq)]
@@ -63,8 +63,11 @@ const UNWRITTEN: i32 = 0x7FFF;
 /// The value that a frame writes to an item of the instrument at this address; none where it is
 /// refused, passed over, or writes no such item. Whether a frame is accepted does not depend on the
 /// table, so one in which nothing was written shows what the frame writes, be it the value that the
-/// item had.
+/// item had. A read-only item is never written: AA and AB change with A1 and A2, and stay read-only.
 fn written(frame: &[u8], address: u8, item: usize) -> Option<i32> {
+    if !items::item(item).writable {
+        return None;
+    }
     let mut table = [UNWRITTEN; 12];
     modbus::answer(&mut table, address, frame);
     let entry = table[item - 1];
@@ -78,7 +81,6 @@ fn written(frame: &[u8], address: u8, item: usize) -> Option<i32> {
 #[cfg(test)]
 mod tests {
     use super::*;
-    use crate::items;
     use crate::modbus::with_crc;
 
     #[test]
@@ -96,6 +98,18 @@ mod tests {
         assert_eq!(written(&frame, 1, 8), None);
         assert_eq!(written(&frame, 1, 11), None);
         assert_eq!(written(&frame, 2, 9), None);
+    }
+
+    #[test]
+    fn a_write_of_an_alarm_level_writes_no_alarm_state() {
+        for level in [7, 8] {
+            let register = items::item(level).register as u8;
+            let frame = with_crc(vec![1, 0x06, 0, register, 0xFF, 0x6A]);
+            for item in 1..=12 {
+                let value = (item == level).then_some(-150);
+                assert_eq!(written(&frame, 1, item), value);
+            }
+        }
     }
 
     #[test]

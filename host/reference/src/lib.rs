@@ -133,8 +133,8 @@ pub fn ascii(table: &mut [i32], reply: &mut [u8], address: u8, line: &[u8]) -> u
     replied(reply, number, &answer)
 }
 
-/// A value put by the firmware, which may set any item within low and high. It looks at 1, 2, 6
-/// and 7.
+/// A value put by the firmware, which may set any item within low and high but AA and AB: these two
+/// change only to stay true. It looks at 1, 2, 6 and 7.
 pub fn put(table: &mut [i32], item: u32, value: i32) -> u32 {
     let fault = items::table_fault(table);
     if fault != 0 {
@@ -144,10 +144,13 @@ pub fn put(table: &mut [i32], item: u32, value: i32) -> u32 {
         return 6;
     }
     let item = item as usize;
+    if item == 2 || item == 3 {
+        return 7;
+    }
     if !items::in_range(item, value) {
         return 7;
     }
-    table[item - 1] = value;
+    items::store(table, item, value);
     0
 }
 

@@ -263,7 +263,7 @@ fn two_characters(id: [u8; 2], table: &[i32], now: u32, received: Received) -> S
 /// low and high.
 fn data(item: usize, table: &[i32], now: u32) -> Step {
     let row = items::item(item);
-    let six = match number::write(row.decimals, items::answer(table, item)) {
+    let six = match number::write(row.decimals, table[item - 1]) {
         Ok(six) => six,
         Err(_) => return ended(46),
     };
@@ -329,7 +329,7 @@ fn text(mut block: Block, received: Received) -> Step {
 fn bcc_place(block: &Block, table: &mut [i32], received: Received) -> Step {
     let (number, reply) = match judge(block, received) {
         Ok((item, value)) => {
-            table[item - 1] = value;
+            items::store(table, item, value);
             (0, ACK)
         }
         Err(number) => (number, NAK),

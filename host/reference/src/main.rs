@@ -1,6 +1,8 @@
 //! Prints the worked examples, one line each: the input, an arrow, the outcome. EXAMPLES.txt holds
 //! the same lines with the values that the documents print, and says what each kind of line means.
 
+mod alarm_examples;
+
 use reference::{items, line, modbus};
 
 /// An instrument at the start: start table, start state, structure 0, time 0, an empty buffer.
@@ -85,20 +87,22 @@ fn bytes(pairs: &str) -> Vec<u8> {
         .collect()
 }
 
-/// Number text sent to an item as a block.
-fn read(id: &str, text: &str) {
-    let mut block = vec![];
-    block.extend(id.as_bytes());
-    block.extend(text.as_bytes());
+/// A text sent as a block to address 1: EOT, the address, STX, the text, ETX and the BCC.
+fn selecting(text: &str) -> Vec<u8> {
+    let mut block = text.as_bytes().to_vec();
     block.push(line::ETX);
     let check = line::bcc(&block);
 
     let mut sent = vec![line::EOT, b'0', b'1', line::STX];
     sent.extend(block);
     sent.push(check);
+    sent
+}
 
+/// Number text sent to an item as a block.
+fn read(id: &str, text: &str) {
     let mut instrument = Instrument::at(1);
-    let (number, _) = instrument.line(&sent);
+    let (number, _) = instrument.line(&selecting(&format!("{}{}", id, text)));
     if number == 0 {
         let item = items::with_id(id.as_bytes()).expect("an item of the list");
         println!("read {} \"{}\" -> {}", id, text, instrument.table[item - 1]);
@@ -415,6 +419,13 @@ fn captures() {
     show(2, THREE);
     show(4, THREE);
     playback(1, MISCOUNTED);
+    for alarms in [
+        "01 06 00 0C 00 00 49 C9 00 08 00 01 00 00 00 00",
+        "01 06 00 0C 00 00 49 C9 00 08 01 06 00 0C 00 01 88 09 00 08 00 02 00 00 00 0A",
+        "01 10 00 0E 00 01 02 FF FF A6 CE 00 0B 01 06 00 0E 27 10 F2 35 00 08 00 02 00 00 00 0D",
+    ] {
+        playback(1, alarms);
+    }
 }
 
 /// Document 02's last write to an item: in the capture of three frames, in the same with a first
@@ -487,4 +498,5 @@ fn main() {
     last_writes();
     ascii_lines();
     ascii_edges();
+    alarm_examples::all();
 }

@@ -116,7 +116,7 @@ fn read(table: &[i32], body: &[u8]) -> Result<Vec<u8>, u8> {
     let mut reply = vec![body[0], body[1], (2 * quantity) as u8];
     for register in start..start + quantity {
         let value = match items::with_register(register) {
-            Some(item) => items::answer(table, item),
+            Some(item) => table[item - 1],
             None => 0,
         };
         reply.extend(register_of(value).to_be_bytes());
@@ -129,7 +129,7 @@ fn write(table: &mut [i32], body: &[u8]) -> Result<Vec<u8>, u8> {
     check_length(body)?;
     let item = writable(word(body[2], body[3]))?;
     let value = in_range(item, word(body[4], body[5]))?;
-    table[item - 1] = value;
+    items::store(table, item, value);
     Ok(body.to_vec())
 }
 
@@ -168,7 +168,7 @@ fn write_several(table: &mut [i32], body: &[u8]) -> Result<Vec<u8>, u8> {
         values.push(in_range(*item, word(data[0], data[1]))?);
     }
     for (item, value) in items.into_iter().zip(values) {
-        table[item - 1] = value;
+        items::store(table, item, value);
     }
     Ok(body[..6].to_vec())
 }

@@ -62,10 +62,69 @@ pub fn good_table(random: &mut Random) -> Vec<i32> {
         let level = table[random.pick(&[6, 7])];
         table[0] = (level + random.between(-1, 1)).clamp(ITEMS[0].low, ITEMS[0].high);
     }
+    agree(&mut table);
     table
 }
 
-/// A table in which some entries may lie outside their range.
+/// Sets the alarm states of a table as M1, A1 and A2 have them: AA is 1 exactly when M1 >= A1, AB
+/// exactly when M1 >= A2.
+pub fn agree(table: &mut [i32]) {
+    table[1] = i32::from(table[0] >= table[6]);
+    table[2] = i32::from(table[0] >= table[7]);
+}
+
+/// A table that every call takes, in which an item has this value of its range. An alarm state has it
+/// by M1 and its level.
+pub fn good_table_with(random: &mut Random, item: usize, value: i32) -> Vec<i32> {
+    let mut table = good_table(random);
+    if is_alarm_state(item) {
+        while table[item - 1] != value {
+            table = good_table(random);
+        }
+    } else {
+        set(&mut table, item, value);
+    }
+    table
+}
+
+/// Whether an item is AA or AB.
+pub fn is_alarm_state(item: usize) -> bool {
+    [2, 3].contains(&item)
+}
+
+/// Sets an item of a good table to anything. The alarm states go with it, so that nothing else is
+/// wrong; one that is set itself may disagree.
+pub fn set(table: &mut [i32], item: usize, entry: i32) {
+    table[item - 1] = entry;
+    if !is_alarm_state(item) {
+        agree(table);
+    }
+}
+
+/// Makes the alarm states of a good table disagree, all other entries being in range: one of them or
+/// both have another value, or a level has gone to the other side of M1 and they have stayed.
+pub fn disagree(table: &mut [i32], random: &mut Random) {
+    let (state, level) = random.pick(&[(1, 6), (2, 7)]);
+    match random.below(4) {
+        0 if table[state] == 0 => table[level] = table[0],
+        0 if table[0] < ITEMS[level].high => table[level] = table[0] + 1,
+        1 => {
+            table[1] = another(random, table[1]);
+            table[2] = another(random, table[2]);
+        }
+        _ => table[state] = another(random, table[state]),
+    }
+}
+
+/// A value that an alarm state does not have, mostly the other one of its range.
+fn another(random: &mut Random, state: i32) -> i32 {
+    match random.below(3) {
+        0 => random.pick(&[state + 2, state - 2, state + 256, state ^ i32::MIN]),
+        _ => 1 - state,
+    }
+}
+
+/// A table in which some entries may lie outside their range, or alarm states disagree.
 pub fn bad_table(random: &mut Random) -> Vec<i32> {
     let mut table = good_table(random);
     for _ in 0..random.below(3) {

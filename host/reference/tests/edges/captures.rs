@@ -216,6 +216,8 @@ fn playback_goes_from_the_start_table_through_the_frames_in_their_order() {
     assert_eq!(played(&capture(&frames[..0])), (0, expected));
     expected[8] = 100;
     assert_eq!(played(&capture(&frames[..1])), (0, expected));
+    // AA, since M1 0 has reached A1 then.
+    expected[1] = 1;
     expected[6] = -50;
     for number in 2..=7 {
         assert_eq!(played(&capture(&frames[..number])), (0, expected));

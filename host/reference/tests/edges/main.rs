@@ -1,5 +1,6 @@
 //! Both sides of each edge, through the raw data of the C face. Values come from the specification.
 
+mod alarms;
 mod ascii;
 mod block;
 mod calls;
@@ -24,7 +25,14 @@ pub const NAK: u8 = 0x15;
 pub const START: [i32; 12] = [0, 0, 0, 0, 0, 0, 500, 500, 0, 1000, 0, 0];
 
 /// Values that make every item's text its own; M1 stands at A1 and below A2.
-pub const OWN: [i32; 12] = [-15, 0, 0, 1, 255, 9999, -15, -14, -1000, 1500, 100, 999];
+pub const OWN: [i32; 12] = [-15, 1, 0, 1, 255, 9999, -15, -14, -1000, 1500, 100, 999];
+
+/// The same table with the alarm states that M1, A1 and A2 make true.
+pub fn agreeing(mut table: [i32; 12]) -> [i32; 12] {
+    table[1] = i32::from(table[0] >= table[6]);
+    table[2] = i32::from(table[0] >= table[7]);
+    table
+}
 
 /// What each item sends then: identifier and six characters.
 pub const OWN_TEXTS: [&[u8; 8]; 12] = [

@@ -163,16 +163,15 @@ fn byte_calls_do_not_look_at_the_time() {
 }
 
 #[test]
-fn alarms_are_worked_out_on_the_line() {
-    for (m1, text) in [(499, b'0'), (500, b'1')] {
+fn alarm_states_are_sent_as_they_stand_in_the_table() {
+    for (m1, a2, states) in [(499, 500, *b"00"), (500, 501, *b"10"), (500, 500, *b"11")] {
         let mut link = Link::start();
-        link.table[0] = m1;
-        for id in [b"AA", b"AB"] {
-            let (number, reply) = link.bytes(&[EOT, b'0', b'1', id[0], id[1], ENQ]);
-            assert_eq!(number, 0);
-            assert_eq!(&reply[3..9], &[b'0', b'0', b'0', b'0', b'0', text]);
+        link.table = agreeing([m1, 0, 0, 0, 0, 0, 500, a2, 0, 1000, 0, 0]).to_vec();
+        for (id, state) in [b"AA", b"AB"].into_iter().zip(states) {
+            let text = [id[0], id[1], b'0', b'0', b'0', b'0', b'0', state];
+            let poll = [EOT, b'0', b'1', id[0], id[1], ENQ];
+            assert_eq!(link.bytes(&poll), (0, data(&text)));
         }
-        assert_eq!(&link.table[1..3], &[0, 0]);
     }
 }
 

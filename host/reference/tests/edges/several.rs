@@ -38,7 +38,7 @@ fn good(start: u16, quantity: usize) -> Vec<i16> {
         .collect()
 }
 
-/// A write that is answered. All other entries stay.
+/// A write that is answered. All other entries stay, AA and AB as long as they are true.
 fn written(start: u16, values: &[i16]) {
     let body = several(start, values);
     let mut link = Link::start();
@@ -48,7 +48,7 @@ fn written(start: u16, values: &[i16]) {
         let (item, _) = with_register(register).expect("a writable register");
         expected[item - 1] = i32::from(*value);
     }
-    assert_eq!(link.table, expected);
+    assert_eq!(link.table, agreeing(expected));
 }
 
 #[test]
@@ -64,7 +64,7 @@ fn the_reply_repeats_start_and_quantity() {
 }
 
 #[test]
-fn an_alarm_answers_by_the_level_that_was_written() {
+fn an_alarm_state_follows_the_level_that_was_written() {
     let mut link = Link::start();
     let body = several(0x0B, &[-1, 0]);
     assert_eq!(ask(&mut link, &body), (0, body[..6].to_vec()));

@@ -5,7 +5,7 @@ use super::several;
 use crate::compare::Compare;
 use crate::failure::Checked;
 use crate::random::Random;
-use crate::shapes::good_table;
+use crate::shapes::good_table_with;
 use reference::items::ITEMS;
 use reference::modbus::with_crc;
 
@@ -68,10 +68,9 @@ pub fn every_word(compare: &mut Compare, random: &mut Random) -> Checked<()> {
 
 /// Each item is read with each value that it can have.
 pub fn every_value_read(compare: &mut Compare, random: &mut Random) -> Checked<()> {
-    for (place, row) in ITEMS.iter().enumerate() {
+    for (row, item) in ITEMS.iter().zip(1..) {
         for value in row.low..=row.high {
-            let mut table = good_table(random);
-            table[place] = value;
+            let table = good_table_with(random, item, value);
             handed_with(compare, random, table, 1, words(1, READ, row.register, 1))?;
         }
     }

@@ -4,14 +4,14 @@ use crate::compare::Compare;
 use crate::failure::Checked;
 use crate::random::Random;
 use crate::shapes::{
-    bad_state, good_state, good_table, odd_state, odd_table, pattern, ADDRESSES, PHASES,
+    bad_state, good_state, good_table, odd_state, odd_table, pattern, set, ADDRESSES, PHASES,
     REPLY_LENGTHS, STRUCTURES,
 };
 use reference::ascii::line_of;
 use reference::items::ITEMS;
 
 /// The calls that look at the table.
-const WITH_TABLE: [Function; 4] = [
+pub const WITH_TABLE: [Function; 4] = [
     Function::Byte,
     Function::Rtu,
     Function::Put,
@@ -19,7 +19,7 @@ const WITH_TABLE: [Function; 4] = [
 ];
 
 /// A call with nothing outside its limits.
-fn good(random: &mut Random, function: Function) -> Call {
+pub fn good(random: &mut Random, function: Function) -> Call {
     let phase = random.below(usize::from(PHASES)) as u8;
     // A frame that leaves the table, or one that writes; for a playback a capture of some.
     let frame = if random.one_in(2) {
@@ -48,7 +48,7 @@ fn good(random: &mut Random, function: Function) -> Call {
 /// Each entry at both ends of its range and one step beyond, in each call that looks at it.
 pub fn entries(compare: &mut Compare, random: &mut Random) -> Checked<()> {
     for function in WITH_TABLE {
-        for (place, row) in ITEMS.iter().enumerate() {
+        for (row, item) in ITEMS.iter().zip(1..) {
             for entry in [
                 i32::MIN,
                 row.low - 1,
@@ -58,7 +58,7 @@ pub fn entries(compare: &mut Compare, random: &mut Random) -> Checked<()> {
                 i32::MAX,
             ] {
                 let mut call = good(random, function);
-                call.table[place] = entry;
+                set(&mut call.table, item, entry);
                 compare.call(&mut call)?;
             }
         }

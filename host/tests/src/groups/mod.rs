@@ -1,5 +1,6 @@
 //! The groups of calls. Each takes one part of the C face and tries what could go wrong there.
 
+mod alarms;
 mod ascii;
 mod blocks;
 mod captures;
@@ -46,6 +47,9 @@ const GROUPS: &[(&str, Calls)] = &[
     ("every byte in every phase", phases::every_byte),
     ("every digit of every address", phases::digits),
     ("entries beside their range", limits::entries),
+    ("alarm states that disagree", alarms::disagreeing),
+    ("alarm states put by the firmware", alarms::put),
+    ("alarm states written by each line", alarms::written),
     ("link states outside their limits", limits::states),
     ("every identifier polled", polls::identifiers),
     ("every identifier in a block", blocks::identifiers),
@@ -63,6 +67,8 @@ const GROUPS: &[(&str, Calls)] = &[
     ("several registers into bad tables", several::lent),
     ("several registers at every address", several::addresses),
     ("frames of every kind and length", requests::every),
+    ("alarm levels set around M1", alarms::levels),
+    ("M1 put around the alarm levels", alarms::measured),
     ("every character in every place", ascii::every_character),
     ("two characters of a line", ascii::two_characters),
     ("bits of a line flipped", ascii::bits),
@@ -84,6 +90,7 @@ const GROUPS: &[(&str, Calls)] = &[
     ("tables lent to a playback", captures::lent),
     ("captures at every address", captures::addresses),
     ("captured writes over each other", captures::overwritten),
+    ("captured writes of alarm levels", alarms::played),
     ("items asked for a last write", last_write::item_numbers),
     ("addresses asked for a last write", last_write::addresses),
     ("frames that all but write an item", last_write::near),
@@ -119,6 +126,7 @@ const GROUPS: &[(&str, Calls)] = &[
     ("sessions on a bad line", sessions::damaged),
     ("sessions on the RTU line", modbus_sessions::whole),
     ("sessions on both Modbus lines", ascii::sessions),
+    ("sessions on all lines", alarms::sessions),
     ("any line", ascii::any),
     ("sessions played back", captures::sessions),
     ("any capture", captures::any),

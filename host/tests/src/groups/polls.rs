@@ -2,7 +2,7 @@ use crate::compare::Compare;
 use crate::failure::Checked;
 use crate::instrument::Instrument;
 use crate::random::Random;
-use crate::shapes::{good_table, TIMES, TWO_CHARACTERS, WAITING};
+use crate::shapes::{good_table, good_table_with, TIMES, TWO_CHARACTERS, WAITING};
 use reference::items::ITEMS;
 use reference::line::{ACK, ENQ, NAK};
 
@@ -23,12 +23,12 @@ pub fn identifiers(compare: &mut Compare, random: &mut Random) -> Checked<()> {
 
 /// A waiting link is asked for its item again, with each value that the item can have.
 pub fn every_value(compare: &mut Compare, random: &mut Random) -> Checked<()> {
-    for (place, row) in ITEMS.iter().enumerate() {
+    for (row, item) in ITEMS.iter().zip(1..) {
         for value in row.low..=row.high {
             let mut instrument = Instrument::any(random);
             instrument.state[0] = WAITING;
-            instrument.state[1] = place as u8 + 1;
-            instrument.table[place] = value;
+            instrument.state[1] = item as u8;
+            instrument.table = good_table_with(random, item, value);
             let again = instrument.sent(NAK);
             instrument.byte(compare, random, again)?;
         }

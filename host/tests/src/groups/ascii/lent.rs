@@ -5,7 +5,7 @@ use crate::call::{Call, Function};
 use crate::compare::Compare;
 use crate::failure::Checked;
 use crate::random::Random;
-use crate::shapes::{good_table, odd_table, pattern, REPLY_LENGTHS};
+use crate::shapes::{good_table, odd_table, pattern, set, REPLY_LENGTHS};
 use reference::ascii::{in_characters, line_of, with_lrc};
 use reference::items::ITEMS;
 
@@ -17,10 +17,10 @@ const BUFFERS: [usize; 6] = [17, 86, 87, 128, 254, 513];
 pub fn lent(compare: &mut Compare, random: &mut Random) -> Checked<()> {
     for message in messages(random, 99) {
         let line = line_of(message);
-        for (place, entry) in edges() {
+        for (item, entry) in edges() {
             for length in [255, 256, 300] {
                 let mut table = good_table(random);
-                table[place] = entry;
+                set(&mut table, item, entry);
                 let buffer = pattern(random, length);
                 hearing(compare, table, buffer, 99, &line)?;
             }
@@ -37,11 +37,11 @@ pub fn lent(compare: &mut Compare, random: &mut Random) -> Checked<()> {
     Ok(())
 }
 
-/// Places of the table, each with values on both sides of both ends of its range.
+/// Items, each with values on both sides of both ends of its range.
 fn edges() -> impl Iterator<Item = (usize, i32)> {
-    ITEMS.iter().enumerate().flat_map(|(place, row)| {
+    ITEMS.iter().zip(1..).flat_map(|(row, item)| {
         let entries = [row.low - 1, row.low, row.high, row.high + 1];
-        entries.map(|entry| (place, entry))
+        entries.map(|entry| (item, entry))
     })
 }
 

@@ -21,17 +21,17 @@ pub use damaged::damaged;
 pub use fronts::{cut, fronts};
 pub use largest::{largest, sizes};
 pub use lengths::lengths;
-pub use recorded::{parts, some};
+pub use recorded::{parts, some, Recorded};
 pub use sessions::sessions;
 pub use trailers::{counts, places};
-pub use written::{near, spans, values};
+pub use written::{all_items, near, spans, values};
 
 use super::captures::Parts;
 use crate::call::{Call, Function};
 use crate::compare::Compare;
 use crate::failure::{Checked, Failure};
 use crate::random::Random;
-use recorded::{due, write, Recorded};
+use recorded::{due, write};
 
 /// The call that asks a capture for the last write to an item at address 1. Value and records are
 /// anything before.

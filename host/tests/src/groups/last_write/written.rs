@@ -33,7 +33,7 @@ pub fn near(compare: &mut Compare, random: &mut Random) -> Checked<()> {
 }
 
 /// Asks a capture of these frames for every item.
-fn all_items(compare: &mut Compare, random: &mut Random, recorded: &[Recorded]) -> Checked<()> {
+pub fn all_items(compare: &mut Compare, random: &mut Random, recorded: &[Recorded]) -> Checked<()> {
     for item in 1..=12 {
         let told = due(recorded, item);
         answers(compare, random, &parts(recorded), item, told)?;

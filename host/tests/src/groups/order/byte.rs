@@ -16,7 +16,7 @@ const FAULTS: [Fault; 6] = [TABLE_LENGTH, ENTRY, BUFFER, ADDRESS, STRUCTURE, STA
 
 /// What a block's text meets behind 11 and 12, as much as possible of what comes later being wrong
 /// too.
-const TEXTS: [(&[u8], u32); 36] = [
+const TEXTS: [(&[u8], u32); 41] = [
     (b"", 13),
     (b"P", 13),
     (b"+", 13),
@@ -42,10 +42,14 @@ const TEXTS: [(&[u8], u32); 36] = [
     (b"M1+", 16),
     (b"M1+99999", 16),
     (b"AA.", 16),
+    (b"AB+1", 16),
     (b"M10", 17),
     (b"M1999999", 17),
     (b"M1-99999", 17),
     (b"AA0", 17),
+    (b"AA1", 17),
+    (b"AB1", 17),
+    (b"AB2", 17),
     (b"ER256", 17),
     (b"PB10.01", 18),
     (b"PB-10.01", 18),
@@ -53,6 +57,7 @@ const TEXTS: [(&[u8], u32); 36] = [
     (b"PB-.058", 0),
     (b"PR0.5009", 0),
     (b"TM999", 0),
+    (b"A2-.1", 0),
 ];
 
 /// The mark of a block and the top bit that is flipped in its BCC: the first has met no line error.

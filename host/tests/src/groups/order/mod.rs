@@ -24,7 +24,7 @@ use crate::call::Call;
 use crate::compare::Compare;
 use crate::failure::Checked;
 use crate::random::Random;
-use crate::shapes::{any_value, outside_limits, pattern};
+use crate::shapes::{any_value, disagree, outside_limits, pattern, set};
 use reference::items::in_range;
 
 /// A way to spoil a call, and the number that it gives where nothing before that is wrong.
@@ -60,15 +60,23 @@ const TABLE_LENGTH: Fault = Fault(1, |call, random| {
     call.table.resize(length, 0);
 });
 
-/// 2: an entry outside its range.
+/// 2: alarm states that disagree, or an entry outside its range.
 const ENTRY: Fault = Fault(2, |call, random| {
+    if random.one_in(2) {
+        disagree(&mut call.table, random);
+    } else {
+        outside_range(&mut call.table, random);
+    }
+});
+
+fn outside_range(table: &mut [i32], random: &mut Random) {
     let item = random.below(12) + 1;
     let mut entry = any_value(random, item);
     while in_range(item, entry) {
         entry = any_value(random, item);
     }
-    call.table[item - 1] = entry;
-});
+    set(table, item, entry);
+}
 
 /// 3: a reply buffer too short.
 const BUFFER: Fault = Fault(3, |call, random| {

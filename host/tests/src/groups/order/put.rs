@@ -3,7 +3,7 @@ use crate::call::{Call, Function};
 use crate::compare::Compare;
 use crate::failure::Checked;
 use crate::random::Random;
-use crate::shapes::{good_table, good_value};
+use crate::shapes::{good_table, good_value, is_alarm_state};
 use reference::items::ITEMS;
 
 /// 7: a value outside the item's range.
@@ -14,7 +14,7 @@ const VALUE: Fault = Fault(7, |call, random| {
 
 const FAULTS: [Fault; 4] = [TABLE_LENGTH, ENTRY, ITEM, VALUE];
 
-/// Every set of faults, for every item.
+/// Every set of faults, for every item. AA and AB take no value.
 pub fn faults(compare: &mut Compare, random: &mut Random) -> Checked<()> {
     for _ in 0..100 {
         for item in 1..=12 {
@@ -24,7 +24,8 @@ pub fn faults(compare: &mut Compare, random: &mut Random) -> Checked<()> {
                 table: good_table(random),
                 ..Call::new(Function::Put)
             };
-            every_set(compare, random, &FAULTS, &call, 0)?;
+            let number = if is_alarm_state(item) { 7 } else { 0 };
+            every_set(compare, random, &FAULTS, &call, number)?;
         }
     }
     Ok(())

@@ -6,7 +6,7 @@ use crate::compare::Compare;
 use crate::failure::Checked;
 use crate::groups::requests::handed;
 use crate::random::Random;
-use crate::shapes::{good_table, pattern};
+use crate::shapes::{good_table, pattern, set};
 use reference::items::{with_register, ITEMS};
 
 /// Starts far from the map, some with a byte of a writable register in it.
@@ -114,11 +114,11 @@ pub fn edges(compare: &mut Compare, random: &mut Random) -> Checked<()> {
 /// beyond, whether the write would mend it or not, and with buffers on both sides of 256 bytes.
 pub fn lent(compare: &mut Compare, random: &mut Random) -> Checked<()> {
     for (start, quantity) in WRITABLE {
-        for (place, row) in ITEMS.iter().enumerate() {
+        for (row, item) in ITEMS.iter().zip(1..) {
             for entry in [row.low - 1, row.low, row.high, row.high + 1] {
                 for length in [255, 256, 300] {
                     let mut table = good_table(random);
-                    table[place] = entry;
+                    set(&mut table, item, entry);
                     let values = good(random, start, quantity);
                     compare.call(&mut Call {
                         address: 99,
