@@ -32,14 +32,14 @@
  *   at any time between two calls; what stands there while a call is under way is not promised.
  *
  *   Firmware sets M1, A1 and A2 by vb_put. Were it to write their entries itself, AA and AB might
- *   not be true any more, and each call that looks at the table would refuse it (2). A table that
- *   is saved and restored comes back with these two entries, for the same reason.
+ *   not be true any more, and each call that looks at the table would refuse it (2). So a saved
+ *   table is restored with these two entries as well.
  *
  * The way out of 2 and of 5
  *   Once an entry of the table lies outside its range, or AA or AB is not true, every call that
  *   looks at the table gives 2, and a put does not mend it. The table is firmware's own memory: it
  *   writes the bad entries itself, each within its range (enum vb_item has them), and then AA and
- *   AB as M1, A1 and A2 have it; or it calls vb_start_table, which sets all entries and so drops
+ *   AB to match M1, A1 and A2; or it calls vb_start_table, which sets all entries and so drops
  *   all settings. Settings that are read back from where they may have been damaged are best
  *   mended in this way before the first call. A link state that gives 5 is set to the start by
  *   vb_start_link; what the host was about is lost, and it begins anew by EOT.
@@ -337,8 +337,8 @@ uint32_t vb_ascii(int32_t *table, uint64_t tn, uint8_t *reply, uint64_t rn, uint
  * value       the number with its point left out
  *
  * Gives 0, 1, 2, 6 or 7; for AA and AB it is 7 whatever the value. With 0 the item's entry is the
- * value, AA and AB are true of it, and all others stay; else the table stays. A bad entry is 2 here
- * too, also where this very put would mend it; the way out stands at the top. */
+ * value, AA and AB are true again, and all others stay; else the table stays. A table that is not
+ * good is 2 here too, also where this very put would mend it; the way out stands at the top. */
 uint32_t vb_put(int32_t *table, uint64_t tn, uint32_t item, int32_t value);
 
 /* Reads number text as the RKC line does: at most six characters, a minus first if any, digits with
@@ -399,7 +399,7 @@ uint32_t vb_show(const uint8_t *capture, uint64_t cn, uint32_t frame, uint32_t *
  * Gives 0, or the first of 4, 6 and 51 with value and records 0. VB_FOUND of the result is 1 where
  * there is such a frame. Where it is 0 with the number 0, the item was never written, all records
  * were read, and the value is 0 (and not the start value, at which vb_playback leaves the item; AA
- * and AB, which no frame writes, it leaves as A1 and A2 have them).
+ * and AB, which no frame writes, follow A1 and A2 there).
  *
  * Damage in front of the record that answers is not noticed, and the trailer's number of records is
  * looked at only where none answers. So 0 with a write found is no proof that the capture is well

@@ -2,7 +2,7 @@
  * counted: link CASE, and behind it ascii for a request that is to go as a line, or the capture for
  * the case playback, show or last-write. Whatever has these functions can be linked to it.
  *
- * M1 is 123.4 before, put there by the link. A case that is none makes no other call.
+ * M1 is 123.4 before, put there by the link. A name that is no case makes no other call.
  *
  * It prints where the counted functions stand, for each call that gave something the number and the
  * reply, the table, the place and length or the last write, how many bytes it handed over, and how

@@ -98,7 +98,7 @@ def modbus(program, functions, cases):
 
 
 def lines(program):
-    """The instructions of some of them as lines of ASCII, and what came back."""
+    """The instructions of the requests in LINES as lines of ASCII, and what came back."""
     figures, gave = {}, {}
     for case in LINES:
         row = f"{case}, ASCII"
