@@ -6,12 +6,16 @@ use line::STX;
 use rkc::Link;
 use rkc::Stepped;
 
-// The numbers of the items that the firmware puts.
-const M1: u32 = 1;
+// The numbers of the items that the firmware puts, or tries to.
+const M1: u8 = 1;
 
-const A1: u32 = 7;
+const AA: u8 = 2;
 
-const A2: u32 = 8;
+const AB: u8 = 3;
+
+const A1: u8 = 7;
+
+const A2: u8 = 8;
 
 const F1: u32 = 11;
 
@@ -28,7 +32,7 @@ const A2_PLACE: usize = 7;
 
 // ---- the line of one example
 
-// Start values into which the firmware puts M1, A1 and A2, one after the other.
+// Start values into which the firmware puts M1, A1 and A2, one after the other; the three are shown.
 fn started(measured: i32, first: i32, second: i32) -> [i32; items::ITEMS] {
     show::value(measured);
     show::value(first);
@@ -36,9 +40,9 @@ fn started(measured: i32, first: i32, second: i32) -> [i32; items::ITEMS] {
     show::text(b":");
     let mut table = [0i32; items::ITEMS];
     table::start(&mut table);
-    table::put(&mut table, M1, measured);
-    table::put(&mut table, A1, first);
-    table::put(&mut table, A2, second);
+    table::put(&mut table, M1 as u32, measured);
+    table::put(&mut table, A1 as u32, first);
+    table::put(&mut table, A2 as u32, second);
     table
 }
 
@@ -81,7 +85,7 @@ fn block(measured: i32, first: i32, second: i32, chars: &[u8]) {
     show::quoted(chars);
     let opened = hear_all(Link::start(), &mut table, &[EOT, b'0', b'1', STX]);
     let told = hear_all(opened, &mut table, chars);
-    let ended = hear_all(told, &mut table, &[ETX]);
+    let ended = hear(told, &mut table, ETX).link;
     let number = hear(ended, &mut table, line::bcc(chars) ^ ETX).number;
     came_of_it(number, table);
 }
@@ -126,30 +130,30 @@ fn table(measured: i32, first: i32, second: i32, state_1: i32, state_2: i32) {
 
 // M1 is put below the alarms' values, at them, and at the ends of its range.
 fn measured_values() {
-    put(0, 500, 500, 1, 499);
-    put(0, 500, 500, 1, 500);
-    put(500, 500, 500, 1, 499);
-    put(0, 500, 501, 1, 500);
-    put(0, -1999, 9999, 1, -1999);
-    put(0, -1999, 9999, 1, 9999);
+    put(0, 500, 500, M1, 499);
+    put(0, 500, 500, M1, 500);
+    put(500, 500, 500, M1, 499);
+    put(0, 500, 501, M1, 500);
+    put(0, -1999, 9999, M1, -1999);
+    put(0, -1999, 9999, M1, 9999);
 }
 
 // An alarm's value is put one above M1 and at it; one out of range is refused.
 fn alarm_values() {
-    put(0, 500, 500, 7, 1);
-    put(0, 500, 500, 7, 0);
-    put(0, 0, 0, 7, 1);
-    put(-150, 500, -149, 8, -150);
-    put(-150, 500, -150, 8, -149);
-    put(500, 500, 500, 7, 10000);
+    put(0, 500, 500, A1, 1);
+    put(0, 500, 500, A1, 0);
+    put(0, 0, 0, A1, 1);
+    put(-150, 500, -149, A2, -150);
+    put(-150, 500, -150, A2, -149);
+    put(500, 500, 500, A1, 10000);
 }
 
 // The alarm states themselves cannot be put, whatever the value; and there is no item 0 or 13.
 fn states_and_no_items() {
-    put(0, 500, 500, 2, 0);
-    put(0, 500, 500, 2, 1);
-    put(500, 500, 501, 3, 0);
-    put(500, 500, 501, 3, 1);
+    put(0, 500, 500, AA, 0);
+    put(0, 500, 500, AA, 1);
+    put(500, 500, 501, AB, 0);
+    put(500, 500, 501, AB, 1);
     put(0, 500, 500, 0, 0);
     put(0, 500, 500, 13, 0);
 }

@@ -20,7 +20,6 @@ use Rattle.call.specs.Demands.{OfCall}
 use Rattle.call.proofs.Answered.{as-sent, reply-bound}
 use Rattle.call.proofs.Demands.{call-good, demand-1-call}
 use Rattle.rtu.specs.Frame as rtu
-use Rattle.rtu.proofs.Replies as frames
 use Rattle.ascii.specs.Hexadecimal.{bytesOf}
 use Rattle.ascii.specs.Line.{wrongLine, wrongLrc, lineOf, dropped, endsInCrLf, beforeCrLf, makeBytes}
 use Rattle.ascii.specs.Line.{rightForm, bytesIn, messageOf, rightLrc, lineFault, actedOn}

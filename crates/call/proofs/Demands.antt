@@ -61,9 +61,9 @@ module _ (form : List ℕ → List ℕ) (call : Call) (fault : ℕ) (body : List
       (stays-or-in-range (call .table) (call .address) body j)
 
   pub call-read-only : (j : ℕ) → itemAt j .writable ≡ false → isAlarmState j ≡ false → entry (answered .table) j ≡ entry (call .table) j
-  call-read-only j h o =
+  call-read-only j h s =
       every-call form call fault body (λ (o : Outcome). entry (o .table) j ≡ entry (call .table) j) (λ number. refl)
-      (read-only-stays (call .table) (call .address) body j h o)
+      (read-only-stays (call .table) (call .address) body j h s)
 
   pub call-good : goodTable (call .table) ≡ true → goodTable (answered .table) ≡ true
   call-good g =
@@ -81,7 +81,7 @@ module _ (form : List ℕ → List ℕ) (call : Call) (fault : ℕ) (body : List
             untouched g (r .number) (refused-silent (omega arith) (omega arith) ∙ ap (silent (call .table)) (sym given));
         numberLeavesTable = λ h. g .table ∙ numbered-leaves (omega arith);
         staysOrInRange = λ j. rw (g .table) (call-in-range j);
-        readOnlyStays = λ j h o. rw (g .table) (call-read-only j h o);
+        readOnlyStays = λ j h s. rw (g .table) (call-read-only j h s);
         goodStaysGood = λ h. rw (g .table) (call-good h);
         inRangeStays = λ h j k. rw (g .table) (good-entry _ j (call-good h) k);
         alarmsStayTrue = λ h. subst⁻¹ AlarmsTrue (g .table) (good-alarms _ (call-good h));

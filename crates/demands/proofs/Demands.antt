@@ -139,9 +139,9 @@ module _ (call : ByteCall) where
     staysOrInRange = λ j.
         of-table (λ (u : List ℤ). (entry u j ≡ entry (call .table) j) ⊎ (inRange j (entry u j) ≡ true)) (inl refl)
         (λ i v w r. stored-in-range (call .table) i j v r);
-    readOnlyStays = λ j r o.
+    readOnlyStays = λ j r s.
         of-table (λ (u : List ℤ). entry u j ≡ entry (call .table) j) refl
-        (λ i v w g. stored-read-only (call .table) i j v w r o);
+        (λ i v w g. stored-read-only (call .table) i j v w r s);
     goodStaysGood = λ g. good-after g;
     alarmsStayTrue = λ g. good-alarms (received call .table) (good-after g);
     staysInLimits = λ z. after z;
@@ -210,11 +210,9 @@ unfolding table.answered written writeNumber fits text
 alarm-text t state limit true e s = rw (s .on e)
 alarm-text t state limit false e s = rw (s .off e)
 
-pub alarms-polled : (structure time : ℕ) (t : List ℤ) → goodTable t ≡ true → OfAlarms structure time t
+pub alarms-polled : (structure time : ℕ) (t : List ℤ) → OfAlarms structure time t
 unfolding itemSent
-alarms-polled structure time t g =
-    let states = good-alarms t g in
-    record {
-      polledAA = rw (alarm-text t table.AA table.A1 _ refl (states .alarm1));
-      polledAB = rw (alarm-text t table.AB table.A2 _ refl (states .alarm2));
-    }
+alarms-polled structure time t = record {
+  polledAA = λ g. rw (alarm-text t table.AA table.A1 _ refl (good-alarms t g .alarm1));
+  polledAB = λ g. rw (alarm-text t table.AB table.A2 _ refl (good-alarms t g .alarm2));
+}

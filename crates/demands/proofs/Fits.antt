@@ -4,11 +4,10 @@ use mathlib.Core.Path.{_≡_, refl}
 use mathlib.Core.Bool.{true}
 use mathlib.Core.List.{List}
 use Prim.Native.Nat.{ℕ, _<_}
-use lib.Dec.{eqb}
-use lib.IntN.{ℤ, pos}
+use lib.IntN.{ℤ}
 use lib.Signed.{leZ}
 use Rattle.numbers.specs.Numbers.{none}
-use Rattle.numbers.proofs.Tests.{both, chosen}
+use Rattle.numbers.proofs.Tests.{both}
 use Rattle.items.specs.ItemList.{Item, items, itemAt, inRange}
 use Rattle.items.proofs.Lists.{passes, passes-at}
 use Rattle.table.specs.Table.{entry, goodTable, answered}

@@ -152,5 +152,5 @@ stateSent structure time i on =
 
 -- a poll of AA in a good table sends 1 exactly when M1 is at least A1, of AB when M1 is at least A2
 pub record OfAlarms (structure time : ℕ) (t : List ℤ) : Type 0 where
-  pub polledAA : itemSent structure time t AA ≡ stateSent structure time AA (leZ (entry t A1) (entry t M1))
-  pub polledAB : itemSent structure time t AB ≡ stateSent structure time AB (leZ (entry t A2) (entry t M1))
+  pub polledAA : goodTable t ≡ true → itemSent structure time t AA ≡ stateSent structure time AA (leZ (entry t A1) (entry t M1))
+  pub polledAB : goodTable t ≡ true → itemSent structure time t AB ≡ stateSent structure time AB (leZ (entry t A2) (entry t M1))

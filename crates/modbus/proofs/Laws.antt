@@ -1,5 +1,5 @@
 -- What holds of every message, over the one definition of what comes of it: the reply is short, a number leaves the table, no
--- message changes a read-only item or puts another outside its range, and a good table stays good.
+-- message changes a read-only item, the alarm states apart, or puts another outside its range, and a good table stays good.
 -- Assumes nothing.
 use mathlib.Core.Path.{_≡_, refl}
 use mathlib.Core.Logic.{_⊎_, inl}

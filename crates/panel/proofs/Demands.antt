@@ -1,7 +1,7 @@
 -- Demand 1 holds of the C functions of the RKC line: what the link's own claims say of a step is seen in the result and in the
 -- bytes that are held.
 -- Assumes nothing.
-use mathlib.Core.Path.{_≡_, refl, ap, subst, _∙_}
+use mathlib.Core.Path.{_≡_, refl, ap, subst, subst⁻¹, _∙_}
 use mathlib.Core.Bool.{true, not}
 use mathlib.Core.List.{List}
 use Prim.Native.Nat.{ℕ, _^_, _<_}
@@ -11,7 +11,7 @@ use lib.Dec.{ltb}
 use lib.IntN.{ℤ}
 use Rattle.crc.specs.Crc.{Bytes}
 use Rattle.rkc.specs.declared.Link.{Link}
-use Rattle.table.specs.Table.{entry}
+use Rattle.table.specs.Table.{entry, goodTable, AlarmsTrue}
 use Rattle.rkc.specs.Outcome.{Step, Outcome, handedBack, ByteCall, byteFault, received, IdleCall, idleFault, idled}
 use Rattle.demands.specs.Numbers.{oneOf, byteFaults, byteNumbers, idleFaults, idleNumbers}
 use Rattle.rkc.proofs.Cases.{received-fault, idled-fault}
@@ -64,7 +64,9 @@ module _ (state : List ℕ) (bytes : Bytes state) (call : ByteCall) {r : ℕ} {h
         otherNumbers = λ z. number-in s byteNumbers refl (d .otherNumbers z);
         nextReads = λ z. ap unpacked (holds-state s byteNumbers refl (d .otherNumbers z)) ∙ byte-carries state bytes call on h;
         staysOrInRange = λ j. rw (p .left) (d .staysOrInRange j);
-        readOnlyStays = λ j w o. ap (λ (t : List ℤ). entry t j) (p .left) ∙ d .readOnlyStays j w o;
+        readOnlyStays = λ j w s. ap (λ (t : List ℤ). entry t j) (p .left) ∙ d .readOnlyStays j w s;
+        goodStaysGood = λ g. ap goodTable (p .left) ∙ d .goodStaysGood g;
+        alarmsStayTrue = λ g. subst⁻¹ AlarmsTrue (p .left) (d .alarmsStayTrue g);
       }
 
 module _ (state : List ℕ) (bytes : Bytes state) (call : IdleCall) {r : ℕ} {held after : List ℕ} (on : call .link ≡ unpacked state)

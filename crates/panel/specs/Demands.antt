@@ -8,7 +8,7 @@ use Prim.Native.Nat.{ℕ, _%_}
 use lib.IntN.{ℤ}
 use Rattle.numbers.specs.Numbers.{none}
 use Rattle.items.specs.ItemList.{itemAt, inRange}
-use Rattle.table.specs.Table.{entry, isAlarmState}
+use Rattle.table.specs.Table.{entry, isAlarmState, goodTable, AlarmsTrue}
 use Rattle.rkc.specs.Outcome.{ByteCall, byteFault, received, IdleCall, idleFault, idled}
 use Rattle.demands.specs.Numbers.{oneOf, byteFaults, byteNumbers, idleFaults, idleNumbers}
 use Rattle.state.specs.State.{unpacked}
@@ -28,9 +28,12 @@ pub record OfVbByte (state : List ℕ) (call : ByteCall) (r : ℕ) (held after :
   -- without a fault the next call finds in the bytes the very state that this one came to
   pub nextReads : byteFault call ≡ none → unpacked held ≡ received call .step .link
   -- whatever the table, each entry stays as it was or is in its range, and that of a read-only item stays as it was, the alarm states
-  -- apart; what those are, Alarms.antt says
+  -- apart
   pub staysOrInRange : (j : ℕ) → (entry left j ≡ entry (call .table) j) ⊎ (inRange j (entry left j) ≡ true)
   pub readOnlyStays : (j : ℕ) → itemAt j .writable ≡ false → isAlarmState j ≡ false → entry left j ≡ entry (call .table) j
+  -- a good table stays good, and the alarm states, which change only to stay true, are true
+  pub goodStaysGood : goodTable (call .table) ≡ true → goodTable left ≡ true
+  pub alarmsStayTrue : goodTable (call .table) ≡ true → AlarmsTrue left
 
 -- what is claimed of `vb_idle`, which has no table: its numbers are 3, 4 and 5 for a fault, else 0 or 44
 pub record OfVbIdle (state : List ℕ) (call : IdleCall) (r : ℕ) (held after : List ℕ) : Type 0 where

@@ -4,7 +4,7 @@ use mathlib.Core.Path.{_≡_, refl, sym, ap, ap₂, _∙_}
 use mathlib.Core.Bool.{Bool, true, false}
 use mathlib.Core.List.{List, [], _∷_}
 use Prim.Native.Nat.{ℕ}
-use borrow.Author.Tests.{eqb-true, eqb-false, eq-eqb}
+use borrow.Author.Tests.{eqb-true, eqb-false}
 use lib.Dec.{eqb}
 use lib.IntN.{ℤ}
 use Rattle.numbers.specs.Numbers.{none}
@@ -21,7 +21,6 @@ use Rattle.settings.proofs.Accepted.{accepted-asks, accepted-number}
 use Rattle.call.specs.Call.{Call, callFault}
 use Rattle.rtu.specs.Frame.{frameFault, actedOn}
 use Rattle.rtu.proofs.Replies.{acted-refused, acted-answered}
-use Rattle.call.proofs.Faults.{is-fine}
 use Rattle.rtu.proofs.Demands.{frame-read-only}
 use Rattle.capture.specs.Format.{frames}
 use Rattle.playback.specs.Playback.{after, handedOver, atStart, playNumber, played}

@@ -1,5 +1,5 @@
--- Frames handed over one at a time: the caller of each makes no fault, and each entry ends with the last value that a frame writes to its
--- item.
+-- Frames handed over one at a time: the caller of each makes no fault, and each entry but the alarm states ends with the last value that
+-- a frame writes to its item.
 -- Assumes nothing.
 use mathlib.Core.Path.{_≡_, refl, sym, ap, _∙_}
 use mathlib.Core.Bool.{Bool, true, false, _&&_}
@@ -8,9 +8,9 @@ use Prim.Native.Nat.{ℕ, _≤_, _<_}
 use native.Mathlib.Omega.{arith}
 use borrow.Author.Tests.{eqb-true, eqb-false, eq-eqb, ne-eqb}
 use lib.Dec.{eqb}
-use lib.IntN.{ℤ, pos}
+use lib.IntN.{ℤ}
 use lib.ListN.{length}
-use lib.Seq.{length-sets, ext-getD}
+use lib.Seq.{length-sets}
 use Rattle.numbers.specs.Numbers.{none, leastBuffer}
 use Rattle.numbers.proofs.Tests.{both}
 use Rattle.items.specs.ItemList.{items, itemAt}
@@ -133,9 +133,14 @@ handed-writes (f ∷ fs) call fine i s h =
     ∙ ap (λ (v : ℤ). over v (lastWrite (call .address) fs i)) (frame-writes call fine f i s h)
     ∙ over-later (entry (call .table) i) (lastWrite (call .address) fs i) (wrote (call .address) f i)
 
-pub handed-fine : (fs : List (List ℕ)) (call : Call) → callFault call ≡ none → callFault (handedOver call fs) ≡ none
+handed-fine : (fs : List (List ℕ)) (call : Call) → callFault call ≡ none → callFault (handedOver call fs) ≡ none
 handed-fine [] call fine = fine
 handed-fine (f ∷ fs) call fine = handed-fine fs (after call f) (after-fine call fine f)
+
+-- so they leave a good table
+pub handed-good : (fs : List (List ℕ)) (call : Call) → callFault call ≡ none → goodTable (handedOver call fs .table) ≡ true
+handed-good fs call fine =
+    eq-eqb (tableFault (handedOver call fs .table)) none (is-fine (handedOver call fs) (handed-fine fs call fine) .table)
 
 -- what begins at the start values makes no fault, in any buffer with room
 pub start-fine : (address : ℕ) (buffer : List ℕ) → isAddress address ≡ true → leastBuffer ≤ length buffer
@@ -144,12 +149,8 @@ start-fine address buffer a room =
     no-fault (record { table = startValues; buffer = buffer; address = address })
     (record { table = eqb-true (tableFault startValues) none good-start; room = room; address = a })
 
--- so they leave a good table
-pub handed-good : (fs : List (List ℕ)) (call : Call) → callFault call ≡ none → goodTable (handedOver call fs .table) ≡ true
-handed-good fs call fine =
-    eq-eqb (tableFault (handedOver call fs .table)) none (is-fine (handedOver call fs) (handed-fine fs call fine) .table)
-
--- which is the one where each entry has the last value that they write to its item, and then the alarm states are made true
+-- the table that frames leave is the one where each entry has the last value that they write to its item, and then the alarm states are
+-- made true
 pub last-writes : (fs : List (List ℕ)) (call : Call) {left : List ℤ} → callFault call ≡ none
     → LastWrites (call .address) fs (call .table) left → alarmsKept left ≡ handedOver call fs .table
 last-writes fs call {left} fine w =

@@ -1,5 +1,6 @@
 // A capture played back: the table that a device ends with that begins at the start values and is handed the capture's frames one at a
-// time. Records can only be walked from the back, so one walk back settles each item by the first write to it that is met.
+// time. Records can only be walked from the back, so one walk back settles each item by the first write to it that is met, and the alarm
+// states are made true at the end.
 ghost use mathlib.Core.Path.{_≡_};
 ghost use lib.ListN.{length};
 ghost use Prim.Native.Nat.{_≤_, _<_};

@@ -16,6 +16,7 @@ use Rattle.numbers.proofs.Tests.{both}
 use Rattle.numbers.proofs.Order.{is-done}
 use Rattle.items.specs.ItemList.{mapSize}
 use Rattle.table.specs.Table.{entry}
+use Rattle.table.proofs.Laws.{good-alarms}
 use Rattle.registers.specs.Register.{highFirst, registersFrom}
 use Rattle.registers.specs.Faults.{firstWord, secondWord, inMap, readFault, dataPlace}
 use Rattle.registers.proofs.Faults.{read-span, counted}
@@ -28,7 +29,7 @@ use Rattle.modbus.specs.Outcome.{Outcome, done, exception, headLength, addressO
 use Rattle.modbus.specs.Rules.{readRegisters, writeRegister, loopback, writeSeveral, readReply, reading, ours, acted}
 use Rattle.settings.specs.Settings.{dataOf, writesOf, ToWrite, OfWriting}
 use Rattle.modbus.proofs.Acting.{obeying-read, acted-ours, acted-other}
-use Rattle.modbus.proofs.Laws.{every, number-leaves-table}
+use Rattle.modbus.proofs.Laws.{every, number-leaves-table, good-stays}
 
 -- ---- what a message writes
 
@@ -142,6 +143,7 @@ writing-claimed t address body =
           or-none t address body (λ (u : List ℤ). entry u i ≡ entry t i) refl
           (λ h. ap (λ (u : List ℤ). entry u i) (written h .stored)
           ∙ outside-stays t (firstWord body) (dataOf body) i s (written h .registers) o);
+      alarmsStayTrue = λ g. good-alarms left (good-stays t address body g);
       readsBack = λ h w b l.
           let start = firstWord body in
           let quantity = length (writesOf body) in

@@ -1,16 +1,16 @@
--- What a message sets, and what is claimed of it: all of its values are stored or none, no entry outside its span moves but the alarm
--- states, and what was written reads back. The claims are of the rules for a message, so they hold on every line that hands its messages to them.
+-- What a message sets, and what is claimed of it: all of its values are stored or none, no entry outside its span moves but the
+-- alarm states, and what was written reads back. The claims are of the rules for a message, so they hold on every line that hands its messages to them.
 use Prim.Native.Nat.{ℕ, _<_}
 use mathlib.Core.Path.{_≡_}
 use mathlib.Core.Logic.{_≢_, _⊎_}
-use mathlib.Core.Bool.{Bool, false, cond, _&&_}
+use mathlib.Core.Bool.{Bool, true, false, cond, _&&_}
 use mathlib.Core.List.{List, [], _∷_, _++_}
 use lib.Dec.{eqb}
 use lib.IntN.{ℤ}
 use lib.ListN.{length, getD, drop}
 use Rattle.numbers.specs.Numbers.{none}
 use Rattle.items.specs.ItemList.{items, itemAt}
-use Rattle.table.specs.Table.{entry, isAlarmState}
+use Rattle.table.specs.Table.{entry, isAlarmState, goodTable, AlarmsTrue}
 use Rattle.registers.specs.Register.{highFirst}
 use Rattle.registers.specs.Faults.{rightLength, firstWord, dataPlace, rightCounts}
 use Rattle.writes.specs.Writes.{Write, writes, Outside, allowed, each, storedAll, given, over}
@@ -59,6 +59,8 @@ pub record OfWriting (table : List ℤ) (address : ℕ) (body : List ℕ) : Type
   -- an entry whose register is outside the span stays, the alarm states apart
   pub outsideStays : (i : ℕ) → isAlarmState i ≡ false → Outside (firstWord body) (length (writesOf body)) (itemAt i .register)
       → entry (acted table address body .table) i ≡ entry table i
+  -- those are true after it, in a table that is good before it
+  pub alarmsStayTrue : goodTable table ≡ true → AlarmsTrue (acted table address body .table)
   -- after a write that is given no number, of bytes and in a table of twelve, a read of the same registers answers the data that was
   -- sent
   pub readsBack : acted table address body .number ≡ none → ToWrite body → ((i : ℕ) → getD body i 0 < 256) → length table ≡ items

@@ -34,7 +34,7 @@ neither i = by (eqb i AA) (eqb i AB) refl refl
     by false false p q e = (eqb-false i AA p, eqb-false i AB q)
 
 -- a claim about the items, by the two and those that are neither
-pub by-state : (P : ℕ → Type 0) (i : ℕ) → P AA → P AB → (isAlarmState i ≡ false → P i) → P i
+by-state : (P : ℕ → Type 0) (i : ℕ) → P AA → P AB → (isAlarmState i ≡ false → P i) → P i
 by-state P i a b other = by (eqb i AA) (eqb i AB) refl refl
   where
     by : (x y : Bool) → eqb i AA ≡ x → eqb i AB ≡ y → P i
@@ -97,17 +97,17 @@ kept-other t i o =
 
 -- puts what M1, A1 and A2 make in the two, in a table that has entries for them
 module _ (t : List ℤ) (h : AB < length t) where
-  pub kept-AA : entry (alarmsKept t) AA ≡ alarm t A1
+  kept-AA : entry (alarmsKept t) AA ≡ alarm t A1
   unfolding alarmsKept
   kept-AA =
       getD-set-other (set t AA (alarm t A1)) AB AA (alarm t A2) (pos 0) (λ e. omega arith)
       ∙ getD-set-same t AA (alarm t A1) (pos 0) (omega arith)
 
-  pub kept-AB : entry (alarmsKept t) AB ≡ alarm t A2
+  kept-AB : entry (alarmsKept t) AB ≡ alarm t A2
   unfolding alarmsKept
   kept-AB = getD-set-same (set t AA (alarm t A1)) AB (alarm t A2) (pos 0) (omega (arith, length-set t AA (alarm t A1)))
 
--- and makes what is made of the table so left
+-- M1, A1 and A2 make the same states of the table so left
 kept-alarm : (t : List ℤ) (limit : ℕ) → isAlarmState limit ≡ false → alarm (alarmsKept t) limit ≡ alarm t limit
 kept-alarm t limit o = alarm-by (alarmsKept t) t limit (kept-other t limit o) (kept-other t M1 refl)
 

@@ -140,7 +140,7 @@ pub stored-other : (t : List ℤ) (i j : ℕ) (v : ℤ) → isAlarmState j ≡ f
 stored-other t i j v o h =
     by-store (λ (s : List ℤ). entry s j ≡ entry t j) t i v refl (kept-other (set t i v) j o ∙ getD-set-other t i j v (pos 0) h)
 
--- so a store to a writable item leaves the read-only ones
+-- so a store to a writable item leaves the read-only ones, the alarm states apart
 pub stored-read-only : (t : List ℤ) (i j : ℕ) (v : ℤ) → itemAt i .writable ≡ true → itemAt j .writable ≡ false → isAlarmState j ≡ false
     → entry (stored t i v) j ≡ entry t j
 stored-read-only t i j v w r o =
@@ -150,7 +150,7 @@ stored-read-only t i j v w r o =
 abbrev pub StaysOrInRange : List ℤ → List ℤ → ℕ → Type 0
 StaysOrInRange t u j = (entry u j ≡ entry t j) ⊎ (inRange j (entry u j) ≡ true)
 
--- as one change after another does where each does
+-- two such changes, one after the other, are one
 pub stays-then : (t u w : List ℤ) (j : ℕ) → StaysOrInRange t u j → StaysOrInRange u w j → StaysOrInRange t w j
 stays-then t u w j first = ⊎-elim (λ stays. ⊎-elim (λ e. inl (stays ∙ e)) (λ r. inr (rw stays r)) first) (λ r. inr r)
 

@@ -12,7 +12,7 @@ use Rattle.sign.specs.Sign.{eqZ}
 use Rattle.items.specs.ItemList.{Item, items, listed, itemList, fromLowToHigh, inRange, found}
 use Rattle.items.specs.declared.Found.the-variants.{At}
 
--- the numbers given back here: an alarm state that is not true has that of an entry outside, and a put to one that of a value outside
+-- the numbers given back here; 2 is also given for an alarm state that is not true, and 7 for a put to one
 abbrev pub wrongLength : ℕ
 wrongLength = 1
 
@@ -55,7 +55,7 @@ pub record Places : Type 0 where
   pub alarm1 : found 0x41 0x31 ≡ At A1
   pub alarm2 : found 0x41 0x32 ≡ At A2
 
--- an item is one of the two
+-- whether an item is one of the two
 abbrev pub isAlarmState : ℕ → Bool
 isAlarmState i = eqb i AA || eqb i AB
 
@@ -108,7 +108,8 @@ startTable t = unlessMet (startNumber t) (λ number. t) startValues
 unfoldable pub answered : List ℤ → ℕ → ℤ
 answered t i = entry t i
 
--- the table after the item at a place took a value: AA and AB are true again. Past the table's end there is no item, and nothing happens.
+-- the table after the item at a place took a value: AA and AB are true again. Past the table's end there is no item, and
+-- nothing happens.
 unfoldable pub stored : List ℤ → ℕ → ℤ → List ℤ
 stored t i v = cond (ltb i (length t)) (alarmsKept (set t i v)) t
 

@@ -19,7 +19,7 @@ const A1: usize = 6;
 
 const A2: usize = 7;
 
-// Numbers given back. An alarm state that is not true has that of an entry outside, and a put to one that of a value outside.
+// Numbers given back. 2 is also given for an alarm state that is not true, and 7 for a put to one.
 pub const WRONG_LENGTH: u8 = 1;
 
 pub const ENTRY_OUTSIDE: u8 = 2;
@@ -31,13 +31,13 @@ pub const VALUE_OUTSIDE: u8 = 7;
 // ---- entries
 
 // What stands at a place of the table, 0 past its end.
-fn entry_at(table: &[i32], i: usize) -> i32
-    ensures { λ r. ⌜ r ≡ entry (now (table .entry)) i ⌝ }
+fn entry_at(table: &[i32], place: usize) -> i32
+    ensures { λ r. ⌜ r ≡ entry (now (table .entry)) place ⌝ }
 {
-    if table.len() <= i {
+    if table.len() <= place {
         return 0;
     }
-    table[i]
+    table[place]
 }
 
 // An entry takes a value. Nothing happens past the table's end.
@@ -68,7 +68,7 @@ fn alarm_state(table: &[i32], limit: usize) -> i32
 }
 
 // Whether AA agrees with M1 and A1, and AB with M1 and A2. Both states are worked out before either is compared, so that the compiler
-// compares them at once.
+// compares both in one.
 fn alarms_agree(table: &[i32]) -> bool
     ensures { λ r. ⌜ r ≡ alarmsAgree (now (table .entry)) ⌝ }
 {
@@ -107,8 +107,8 @@ fn all_in_range(table: &[i32]) -> bool
     inside
 }
 
-// The table's fault: WRONG_LENGTH, ENTRY_OUTSIDE, or NONE. The alarm states have one number with the ranges, so that either may be looked at
-// first; that they come first costs less.
+// The table's fault: WRONG_LENGTH, ENTRY_OUTSIDE, or NONE. Alarm states and ranges have one number, so it does not show which is
+// looked at first; with the alarm states first it costs less.
 pub fn check(table: &[i32]) -> u8
     ensures { λ r. ⌜ r ≡ tableFault (now (table .entry)) ⌝ }
 {
@@ -150,7 +150,7 @@ pub fn answer(table: &[i32], i: usize) -> i32
     entry_at(table, i)
 }
 
-// An item takes a value, and AA and AB are made true again. Nothing happens past the table's end: where they were made true there too,
+// An item takes a value, and AA and AB are made true again. Past the table's end nothing happens: if they were made true there too,
 // the compiler would hold M1, A1 and A2 from the table's check on, at each call.
 pub fn store(table: &mut [i32], i: usize, value: i32)
     ensures { λ r. ⌜ now (table .exit) ≡ stored (now (table .entry)) i value ⌝ }

@@ -1,6 +1,7 @@
 // Runs the worked examples of documents 01 and 02, of the manuals 000, 002, 003 and 004 and of the Modbus documents through the
 // library and writes a line for each: the example, and what comes of it. An example that more than one document prints stands where
-// it comes first. Those of captures and of Modbus ASCII have programs of their own, `capture_vectors` and `ascii_vectors`.
+// it comes first. Those of captures, of Modbus ASCII and of the alarm states have programs
+// of their own, `capture_vectors`, `ascii_vectors` and `alarm_vectors`.
 mod modbus_rtu;
 mod rkc_line;
 

@@ -19,7 +19,7 @@ returns c = simp (ne-eqb _ _ (c .if1 .taken))
 alarms-agree-requires : tie.Need-alarms-agree-requires
 alarms-agree-requires c κs = search needs
 
--- so it makes no difference which is looked at first
+-- both have one number, so it makes no difference which is looked at first
 either-fault : (t : List ℤ) → length t ≡ items → tableFault t ≡ unless (alarmsAgree t && allInRange itemList t) entryOutside
 unfolding tableFault
 either-fault t l = rw (eq-eqb _ _ l) (by (allInRange itemList t) (alarmsAgree t))
