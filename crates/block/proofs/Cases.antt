@@ -48,71 +48,72 @@ pub record Named (mark : Bool) (bcc count : ℕ) (kept : List ℕ) (c : ℕ) : T
   pub item : blockItem kept < items
 
 -- nor are 15 and 16: it has a value for the item
-pub record Valued (count : ℕ) (kept : List ℕ) (v : ℤ) : Type 0 where
+pub record Valued (xu count : ℕ) (kept : List ℕ) (v : ℤ) : Type 0 where
   pub whole : count ≤ mostKept
-  pub read : ReadAs width (blockDecimals kept) (dataCharacters count kept) (Value v)
+  pub read : ReadAs width (blockDecimals xu kept) (dataCharacters count kept) (Value v)
 
-module _ {mark : Bool} {bcc count : ℕ} {kept : List ℕ} {c : ℕ} where
-  refused : (n : ℕ) → (n ≡ none → ⊥) → blockNumber mark bcc count kept c ≡ n → Judges mark bcc count kept c (Refuse n)
+-- the numbers from the data characters on decide
+reached : (xu : ℕ) {mark : Bool} {bcc count : ℕ} {kept : List ℕ} {c : ℕ} → Named mark bcc count kept c
+    → blockNumber xu mark bcc count kept c ≡ firstMet (drop 4 (blockNumbers xu mark bcc count kept c))
+unfolding blockNumber
+reached xu {mark} {bcc} {count} {kept} {c} n =
+    rw (n .heard, eq-eqb c bcc (n .same), le-leb identifierLength count (n .two), lt-ltb (blockItem kept) items (n .item))
+
+module _ {xu : ℕ} {mark : Bool} {bcc count : ℕ} {kept : List ℕ} {c : ℕ} where
+  refused : (n : ℕ) → (n ≡ none → ⊥) → blockNumber xu mark bcc count kept c ≡ n → Judges xu mark bcc count kept c (Refuse n)
   refused n h e = let met = ne-eqb n none h in record { number = sym e; item = rw (e, met); value = rw (e, met) }
 
   -- ---- before the item is known
 
-  pub line-error : (mark || isLineError c) ≡ true → Judges mark bcc count kept c (Refuse lineError)
+  pub line-error : (mark || isLineError c) ≡ true → Judges xu mark bcc count kept c (Refuse lineError)
   unfolding blockNumber
   line-error h = refused lineError (λ z. omega arith) (rw h)
 
   module _ (heard : (mark || isLineError c) ≡ false) where
-    pub wrong-bcc : (c ≡ bcc → ⊥) → Judges mark bcc count kept c (Refuse wrongBcc)
+    pub wrong-bcc : (c ≡ bcc → ⊥) → Judges xu mark bcc count kept c (Refuse wrongBcc)
     unfolding blockNumber
     wrong-bcc h = refused wrongBcc (λ z. omega arith) (rw (heard, ne-eqb c bcc h))
 
-    pub under-two : c ≡ bcc → count < identifierLength → Judges mark bcc count kept c (Refuse underTwo)
+    pub under-two : c ≡ bcc → count < identifierLength → Judges xu mark bcc count kept c (Refuse underTwo)
     unfolding blockNumber
     under-two e h = refused underTwo (λ z. omega arith) (rw (heard, eq-eqb c bcc e, lt-leb identifierLength count h))
 
     pub unknown : c ≡ bcc → identifierLength ≤ count → found (getD kept 0 0) (getD kept 1 0) ≡ Nothing
-        → Judges mark bcc count kept c (Refuse unknownIdentifier)
+        → Judges xu mark bcc count kept c (Refuse unknownIdentifier)
     unfolding blockNumber blockItem
     unknown e h n = refused unknownIdentifier (λ z. omega arith) (rw (heard, eq-eqb c bcc e, le-leb identifierLength count h, n))
 
   -- ---- for its item
 
   module _ (n : Named mark bcc count kept c) where
-    -- the numbers from the data characters on decide
-    reached : blockNumber mark bcc count kept c ≡ firstMet (drop 4 (blockNumbers mark bcc count kept c))
-    unfolding blockNumber
-    reached =
-        rw (n .heard, eq-eqb c bcc (n .same), le-leb identifierLength count (n .two), lt-ltb (blockItem kept) items (n .item))
+    pub too-long : mostKept < count → Judges xu mark bcc count kept c (Refuse overSixCharacters)
+    too-long h = refused overSixCharacters (λ z. omega arith) (reached xu n ∙ rw (lt-leb count mostKept h))
 
-    pub too-long : mostKept < count → Judges mark bcc count kept c (Refuse overSixCharacters)
-    too-long h = refused overSixCharacters (λ z. omega arith) (reached ∙ rw (lt-leb count mostKept h))
-
-    pub no-number : count ≤ mostKept → {r : Reading} → ReadAs width (blockDecimals kept) (dataCharacters count kept) r
-        → {n : ℕ} → n ≡ numberOf r → (n ≡ none → ⊥) → Judges mark bcc count kept c (Refuse n)
-    no-number whole read {n} e h =
-        refused n h (reached ∙ rw (le-leb count mostKept whole, ← (read .number), ← e, ne-eqb n none h))
+    pub no-number : count ≤ mostKept → {r : Reading} → ReadAs width (blockDecimals xu kept) (dataCharacters count kept) r
+        → {k : ℕ} → k ≡ numberOf r → (k ≡ none → ⊥) → Judges xu mark bcc count kept c (Refuse k)
+    no-number whole read {k} e h =
+        refused k h (reached xu n ∙ rw (le-leb count mostKept whole, ← (read .number), ← e, ne-eqb k none h))
 
     -- ---- with its value
 
-    module _ {v : ℤ} (e : Valued count kept v) where
-      same-value : v ≡ blockValue count kept
+    module _ {v : ℤ} (e : Valued xu count kept v) where
+      same-value : v ≡ blockValue xu count kept
       unfolding blockValue
       same-value = e .read .value
 
       -- the item's kind and range decide
-      valued : blockNumber mark bcc count kept c ≡ firstMet (drop 6 (blockNumbers mark bcc count kept c))
-      valued = reached ∙ rw (le-leb count mostKept (e .whole), ← (e .read .number))
+      valued : blockNumber xu mark bcc count kept c ≡ firstMet (drop 6 (blockNumbers xu mark bcc count kept c))
+      valued = reached xu n ∙ rw (le-leb count mostKept (e .whole), ← (e .read .number))
 
-      pub read-only : itemAt (blockItem kept) .writable ≡ false → Judges mark bcc count kept c (Refuse readOnly)
+      pub read-only : itemAt (blockItem kept) .writable ≡ false → Judges xu mark bcc count kept c (Refuse readOnly)
       read-only w = refused readOnly (λ z. omega arith) (valued ∙ rw w)
 
       module _ (w : itemAt (blockItem kept) .writable ≡ true) where
-        pub out-of-range : inRange (blockItem kept) v ≡ false → Judges mark bcc count kept c (Refuse outOfRange)
+        pub out-of-range : inRange (blockItem kept) v ≡ false → Judges xu mark bcc count kept c (Refuse outOfRange)
         out-of-range k = refused outOfRange (λ z. omega arith) (valued ∙ rw (w, ← same-value, k))
 
         pub stored : inRange (blockItem kept) v ≡ true → {i : ℕ} {u : ℤ} → i ≡ blockItem kept → u ≡ v
-            → Judges mark bcc count kept c (Store i u)
+            → Judges xu mark bcc count kept c (Store i u)
         stored k p q =
-            let z : blockNumber mark bcc count kept c ≡ none = valued ∙ rw (w, ← same-value, k) in
+            let z : blockNumber xu mark bcc count kept c ≡ none = valued ∙ rw (w, ← same-value, k) in
             record { number = sym z; item = p ∙ rw z; value = q ∙ same-value ∙ rw z }

@@ -6,15 +6,15 @@ use mathlib.Core.Bool.{Bool, true, false, not, _&&_, _||_}
 use mathlib.Core.List.{List, [], _∷_}
 use Prim.Native.Nat.{ℕ, _<_, _≤_}
 use native.Mathlib.Omega.{arith}
-use borrow.Author.Tests.{leb-true, ltb-true, ltb-false}
+use borrow.Author.Tests.{eqb-false, leb-true, ltb-true, ltb-false}
 use lib.Dec.{leb, ltb, eqb}
 use lib.IntN.{ℤ}
 use Rattle.numbers.specs.Numbers.{none, unless, firstMet}
-use Rattle.numbers.proofs.Tests.{both}
+use Rattle.numbers.proofs.Tests.{both, chosen}
 use Rattle.numbers.proofs.Order.{each, none-at, test-held}
 use Rattle.numbers.proofs.Single.{single}
 use Rattle.line.specs.Line.{isLineError}
-use Rattle.items.specs.ItemList.{items, itemAt, inRange}
+use Rattle.items.specs.ItemList.{items, itemAt, byXU, decimalsOf, inRange}
 use Rattle.items.proofs.Lists.{passes-at, line-past}
 use Rattle.text.specs.Numbers.{width, mostDecimals, overSixCharacters, noNumber}
 use Rattle.text.proofs.Readings.{few-numbers}
@@ -33,13 +33,19 @@ pub record Refusing (n : ℕ) : Type 0 where
   pub least : lineError ≤ n
   pub most : n ≤ outOfRange
 
--- number text takes the decimals of every item, and of what stands past the list
-pub few-decimals : (i : ℕ) → itemAt i .decimals ≤ mostDecimals
-few-decimals i = by (ltb i items) refl
+-- number text takes the decimals of every item, and of what stands past the list, where it takes those that XU gives
+listed-decimals : (i : ℕ) → itemAt i .decimals ≤ byXU
+listed-decimals i = by (ltb i items) refl
   where
-    by : (b : Bool) → ltb i items ≡ b → itemAt i .decimals ≤ mostDecimals
-    by true e = leb-true _ _ (passes-at (λ (k : ℕ). leb (itemAt k .decimals) mostDecimals) items i refl (ltb-true i items e))
+    by : (b : Bool) → ltb i items ≡ b → itemAt i .decimals ≤ byXU
+    by true e = leb-true _ _ (passes-at (λ (k : ℕ). leb (itemAt k .decimals) byXU) items i refl (ltb-true i items e))
     by false e = rw (line-past i (ltb-false i items e)) (omega arith)
+
+pub few-decimals : (xu i : ℕ) → xu ≤ mostDecimals → decimalsOf xu i ≤ mostDecimals
+unfolding decimalsOf
+few-decimals xu i few =
+    chosen (λ (d : ℕ). d ≤ mostDecimals) (eqb (itemAt i .decimals) byXU) (λ _. few)
+    (λ e. let other = eqb-false (itemAt i .decimals) byXU e in let most = listed-decimals i in omega arith)
 
 -- ---- the first of several numbers
 
@@ -71,52 +77,52 @@ tested : (test : Bool) (n : ℕ) → (leb lineError n && leb n outOfRange) ≡ t
 tested true n e = not-met
 tested false n e = numbered n e
 
-module _ (mark : Bool) (bcc count : ℕ) (kept : List ℕ) (c : ℕ) where
-  pub block-stores : blockNumber mark bcc count kept c ≡ none → Storable (blockItem kept) (blockValue count kept)
+module _ (xu : ℕ) (mark : Bool) (bcc count : ℕ) (kept : List ℕ) (c : ℕ) where
+  pub block-stores : blockNumber xu mark bcc count kept c ≡ none → Storable (blockItem kept) (blockValue xu count kept)
   unfolding blockNumber
   block-stores e =
-      let ns = blockNumbers mark bcc count kept c in
+      let ns = blockNumbers xu mark bcc count kept c in
       record {
         listed = ltb-true _ _ (test-held _ unknownIdentifier (omega arith) (none-at ns 3 e));
         writable = test-held _ readOnly (omega arith) (none-at ns 6 e);
         ranged = test-held _ outOfRange (omega arith) (none-at ns 7 e);
       }
 
-  pub block-refuses : (blockNumber mark bcc count kept c ≡ none → ⊥) → Refusing (blockNumber mark bcc count kept c)
+  pub block-refuses : xu ≤ mostDecimals → (blockNumber xu mark bcc count kept c ≡ none → ⊥) → Refusing (blockNumber xu mark bcc count kept c)
   unfolding blockNumber
-  block-refuses =
+  block-refuses few =
       let text = few-numbers IfMet not-met (numbered noNumber refl) (numbered overSixCharacters refl) in
-      first-each IfMet (blockNumbers mark bcc count kept c)
+      first-each IfMet (blockNumbers xu mark bcc count kept c)
       (tested (not (mark || isLineError c)) lineError refl
       then tested (eqb c bcc) wrongBcc refl
       then tested (leb identifierLength count) underTwo refl
       then tested (ltb (blockItem kept) items) unknownIdentifier refl
       then tested (leb count mostKept) overSixCharacters refl
-      then text width (blockDecimals kept) (dataCharacters count kept) (few-decimals (blockItem kept))
+      then text width (blockDecimals xu kept) (dataCharacters count kept) (few-decimals xu (blockItem kept) few)
       then tested (itemAt (blockItem kept) .writable) readOnly refl
-      then tested (inRange (blockItem kept) (blockValue count kept)) outOfRange refl
+      then tested (inRange (blockItem kept) (blockValue xu count kept)) outOfRange refl
       then end not-met)
 
   -- ---- what a verdict tells of it
 
   -- a value to store: no number is met, and item and value are the block's
-  pub stores : (i : ℕ) (v : ℤ) → Judges mark bcc count kept c (Store i v)
-      → (blockNumber mark bcc count kept c ≡ none) × (i ≡ blockItem kept) × (v ≡ blockValue count kept)
+  pub stores : (i : ℕ) (v : ℤ) → Judges xu mark bcc count kept c (Store i v)
+      → (blockNumber xu mark bcc count kept c ≡ none) × (i ≡ blockItem kept) × (v ≡ blockValue xu count kept)
   stores i v j = let z = sym (j .number) in (z, rw z at (j .item), rw z at (j .value))
 
   -- a refusal: the block's number, which is met
-  pub refuses : (n : ℕ) → Judges mark bcc count kept c (Refuse n) → (blockNumber mark bcc count kept c ≡ n) × (n ≡ none → ⊥)
+  pub refuses : (n : ℕ) → Judges xu mark bcc count kept c (Refuse n) → (blockNumber xu mark bcc count kept c ≡ n) × (n ≡ none → ⊥)
   refuses n j = (sym (j .number), met)
     where
       met : n ≡ none → ⊥
       met e =
-          let z : blockNumber mark bcc count kept c ≡ none = sym (j .number) ∙ e in
+          let z : blockNumber xu mark bcc count kept c ≡ none = sym (j .number) ∙ e in
           let past = rw z at (j .item) in
           let s = block-stores z .listed in
           omega arith
 
   -- so two verdicts on one block are the same
-  pub one-verdict : (r s : Verdict) → Judges mark bcc count kept c r → Judges mark bcc count kept c s → r ≡ s
+  pub one-verdict : (r s : Verdict) → Judges xu mark bcc count kept c r → Judges xu mark bcc count kept c s → r ≡ s
   one-verdict (Store i v) (Store k w) p q = ap₂ Store (single (p .item) (q .item)) (single (p .value) (q .value))
   one-verdict (Refuse n) (Refuse m) p q = ap Refuse (single (p .number) (q .number))
   one-verdict (Store i v) (Refuse m) p q = absurd (refuses m q .1 (single (q .number) (p .number)))

@@ -9,7 +9,7 @@ use lib.IntN.{ℤ, pos}
 use lib.ListN.{getD, take, drop}
 use Rattle.numbers.specs.Numbers.{none, unless, firstMet, unlessMet}
 use Rattle.line.specs.Line.{isLineError}
-use Rattle.items.specs.ItemList.{items, itemAt, found, placeFound, inRange}
+use Rattle.items.specs.ItemList.{items, itemAt, decimalsOf, found, placeFound, inRange}
 use Rattle.text.specs.Numbers.{width, overSixCharacters}
 use Rattle.text.specs.Reading.{readNumber, readValue}
 use Rattle.block.specs.declared.Verdict.{Verdict}
@@ -47,36 +47,36 @@ mostKept = identifierLength + width
 unfoldable pub blockItem : List ℕ → ℕ
 blockItem kept = placeFound (found (getD kept 0 0) (getD kept 1 0))
 
--- the decimals that its number text is read with
-abbrev pub blockDecimals : List ℕ → ℕ
-blockDecimals kept = itemAt (blockItem kept) .decimals
+-- the decimals that its number text is read with, where XU gives so many
+abbrev pub blockDecimals : ℕ → List ℕ → ℕ
+blockDecimals xu kept = decimalsOf xu (blockItem kept)
 
 -- the data characters: the kept ones after the identifier, up to the count
 abbrev pub dataCharacters : ℕ → List ℕ → List ℕ
 dataCharacters count kept = drop identifierLength (take count kept)
 
 -- the value that they write
-unfoldable pub blockValue : ℕ → List ℕ → ℤ
-blockValue count kept = readValue width (blockDecimals kept) (dataCharacters count kept)
+unfoldable pub blockValue : ℕ → ℕ → List ℕ → ℤ
+blockValue xu count kept = readValue width (blockDecimals xu kept) (dataCharacters count kept)
 
 -- ---- its number
 
--- The numbers that a block can meet, in the order in which they are tried: by whether it was marked, the BCC of its text and
--- ETX, the count of its characters, those kept, and what was heard in the BCC's place.
-abbrev pub blockNumbers : Bool → ℕ → ℕ → List ℕ → ℕ → List ℕ
-blockNumbers mark bcc count kept c =
+-- The numbers that a block can meet, in the order in which they are tried: by the decimals that XU gives, whether it was marked, the
+-- BCC of its text and ETX, the count of its characters, those kept, and what was heard in the BCC's place.
+abbrev pub blockNumbers : ℕ → Bool → ℕ → ℕ → List ℕ → ℕ → List ℕ
+blockNumbers xu mark bcc count kept c =
     unless (not (mark || isLineError c)) lineError
     ∷ unless (eqb c bcc) wrongBcc
     ∷ unless (leb identifierLength count) underTwo
     ∷ unless (ltb (blockItem kept) items) unknownIdentifier
     ∷ unless (leb count mostKept) overSixCharacters
-    ∷ readNumber width (blockDecimals kept) (dataCharacters count kept)
+    ∷ readNumber width (blockDecimals xu kept) (dataCharacters count kept)
     ∷ unless (itemAt (blockItem kept) .writable) readOnly
-    ∷ unless (inRange (blockItem kept) (blockValue count kept)) outOfRange
+    ∷ unless (inRange (blockItem kept) (blockValue xu count kept)) outOfRange
     ∷ []
 
-unfoldable pub blockNumber : Bool → ℕ → ℕ → List ℕ → ℕ → ℕ
-blockNumber mark bcc count kept c = firstMet (blockNumbers mark bcc count kept c)
+unfoldable pub blockNumber : ℕ → Bool → ℕ → ℕ → List ℕ → ℕ → ℕ
+blockNumber xu mark bcc count kept c = firstMet (blockNumbers xu mark bcc count kept c)
 
 -- ---- the verdict
 
@@ -94,7 +94,7 @@ verdictValue (Store i v) = v
 verdictValue (Refuse n) = pos 0
 
 -- what is promised of a verdict: it has the block's number, and the block's item and value where no number is met
-pub record Judges (mark : Bool) (bcc count : ℕ) (kept : List ℕ) (c : ℕ) (r : Verdict) : Type 0 where
-  pub number : verdictNumber r ≡ blockNumber mark bcc count kept c
-  pub item : verdictItem r ≡ unlessMet (blockNumber mark bcc count kept c) (λ n. items) (blockItem kept)
-  pub value : verdictValue r ≡ unlessMet (blockNumber mark bcc count kept c) (λ n. pos 0) (blockValue count kept)
+pub record Judges (xu : ℕ) (mark : Bool) (bcc count : ℕ) (kept : List ℕ) (c : ℕ) (r : Verdict) : Type 0 where
+  pub number : verdictNumber r ≡ blockNumber xu mark bcc count kept c
+  pub item : verdictItem r ≡ unlessMet (blockNumber xu mark bcc count kept c) (λ n. items) (blockItem kept)
+  pub value : verdictValue r ≡ unlessMet (blockNumber xu mark bcc count kept c) (λ n. pos 0) (blockValue xu count kept)

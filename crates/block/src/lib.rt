@@ -29,10 +29,10 @@ const IDENTIFIER_LENGTH: u8 = 2;
 
 pub const MOST_KEPT: usize = IDENTIFIER_LENGTH as usize + text::WIDTH;
 
-// The verdict on a block that was marked or not, with the BCC of its text and ETX, the count of its characters, those that
-// were kept, and the byte in the BCC's place as it was heard.
-pub fn judge(mark: bool, bcc: u8, count: u8, kept: [u8; MOST_KEPT], c: u8) -> Verdict
-    ensures { λ r. ⌜ Judges mark bcc count kept c r ⌝ }
+// The verdict on a block, where XU gives so many decimals: one that was marked or not, with the BCC of its text and ETX, the count of
+// its characters, those that were kept, and the byte in the BCC's place as it was heard.
+pub fn judge(xu: u8, mark: bool, bcc: u8, count: u8, kept: [u8; MOST_KEPT], c: u8) -> Verdict
+    ensures { λ r. ⌜ Judges xu mark bcc count kept c r ⌝ }
 {
     if mark || line::TOP_BIT <= c {
         return Verdict::Refuse(LINE_ERROR);
@@ -50,7 +50,10 @@ pub fn judge(mark: bool, bcc: u8, count: u8, kept: [u8; MOST_KEPT], c: u8) -> Ve
     if MOST_KEPT < end {
         return Verdict::Refuse(OVER_SIX_CHARACTERS);
     }
-    let read = text::read(items::decimals(i), &kept[IDENTIFIER_LENGTH as usize..end]);
+    let read = text::read(
+        items::decimals(xu, i),
+        &kept[IDENTIFIER_LENGTH as usize..end],
+    );
     let Reading::Value(v) = read else {
         return Verdict::Refuse(read.number());
     };

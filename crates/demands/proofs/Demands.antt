@@ -15,7 +15,7 @@ use lib.Signed.{leZ}
 use Rattle.numbers.specs.Numbers.{none}
 use Rattle.numbers.proofs.Tests.{contrary, chosen}
 use Rattle.numbers.proofs.Order.{either-way}
-use Rattle.items.specs.ItemList.{items, itemAt, inRange}
+use Rattle.items.specs.ItemList.{items, itemAt, decimalsOf, inRange}
 use Rattle.table.specs.Table as table
 use Rattle.table.specs.Table.{goodTable, entry, stored, IsTrue}
 use Rattle.table.proofs.Laws.{good-alarms, good-stored, stored-in-range, stored-read-only}
@@ -63,8 +63,8 @@ module _ (l : Link) (t : List ℤ) (structure time : ℕ) where
       → P (performed l t structure time x .table)
   leaves x P same new =
       kept-or-judged x (λ (o : Outcome). P (o .table)) (λ s. same)
-      (λ c. chosen (λ (o : Outcome). P (o .table)) (eqb (refusing l c) none)
-      (λ e. let s = block-stores (l .mark) (l .bcc) (l .count) (l .kept) c (eqb-true _ _ e) in new _ _ (s .writable) (s .ranged))
+      (λ c. chosen (λ (o : Outcome). P (o .table)) (eqb (refusing t l c) none)
+      (λ e. let s = block-stores (table.xuOf t) (l .mark) (l .bcc) (l .count) (l .kept) c (eqb-true _ _ e) in new _ _ (s .writable) (s .ranged))
       (λ _. same))
 
   -- where a number is given the table stays
@@ -74,7 +74,7 @@ module _ (l : Link) (t : List ℤ) (structure time : ℕ) where
   numbered-stays : (x : Act) → StaysIfMet (performed l t structure time x)
   numbered-stays x =
       kept-or-judged x StaysIfMet (λ s _. refl)
-      (λ c. chosen StaysIfMet (eqb (refusing l c) none) (λ _ h. absurd (h refl)) (λ _ _. refl))
+      (λ c. chosen StaysIfMet (eqb (refusing t l c) none) (λ _ h. absurd (h refl)) (λ _ _. refl))
 
 -- ---- what is sent
 
@@ -108,7 +108,7 @@ module _ (call : ByteCall) where
       (limited z))
 
   -- what holds of the table as it came and after a store in range in a writable item
-  of-table : (P : List ℤ → Type 0) → P (call .table)
+  pub of-table : (P : List ℤ → Type 0) → P (call .table)
       → ((i : ℕ) (v : ℤ) → itemAt i .writable ≡ true → inRange i v ≡ true → P (stored (call .table) i v))
       → P (received call .table)
   of-table P same new =
@@ -211,7 +211,7 @@ alarm-text t state limit true e s = rw (s .on e)
 alarm-text t state limit false e s = rw (s .off e)
 
 pub alarms-polled : (structure time : ℕ) (t : List ℤ) → OfAlarms structure time t
-unfolding itemSent
+unfolding decimalsOf itemSent
 alarms-polled structure time t = record {
   polledAA = λ g. rw (alarm-text t table.AA table.A1 _ refl (good-alarms t g .alarm1));
   polledAB = λ g. rw (alarm-text t table.AB table.A2 _ refl (good-alarms t g .alarm2));

@@ -11,20 +11,19 @@ use lib.IntN.{ℤ}
 use lib.ListN.{length, length-append, length-map}
 use Rattle.numbers.specs.Numbers.{none}
 use Rattle.numbers.proofs.Tests.{chosen}
-use Rattle.items.specs.ItemList.{itemAt, found}
-use Rattle.table.specs.Table.{answered}
+use Rattle.items.specs.ItemList.{decimalsOf, found}
+use Rattle.table.specs.Table.{answered, xuOf}
 use Rattle.items.specs.declared.Found.{Found}
 use Rattle.items.specs.declared.Found.the-variants.{At, Nothing}
 use Rattle.line.specs.Line.{ETX, EOT, ACK, NAK, sent, bcc}
 use Rattle.text.specs.Numbers.{width}
-use Rattle.text.specs.Writing.{written}
 use Rattle.text.proofs.Texts.{written-length}
 use Rattle.phases.specs.Phases.{waiting}
 use Rattle.phases.specs.declared.Act.{Act}
 use Rattle.phases.specs.declared.Act.the-variants.{Go, First, Both, More, Ended, Quit, Poll, Send, Judge}
 use Rattle.rkc.specs.declared.Link.{Link}
 use Rattle.rkc.specs.State.{used}
-use Rattle.rkc.specs.Outcome.{Step, Outcome, message, dataReply, itemSent, polled, refusing, judged, performed}
+use Rattle.rkc.specs.Outcome.{Step, Outcome, message, dataReply, itemText, itemSent, polled, refusing, judged, performed}
 use Rattle.rkc.specs.Outcome.{ByteCall, byteFault, received, IdleCall, idleFault, elapsed, patience, idled}
 
 -- ---- every reply
@@ -34,8 +33,8 @@ module _ (P : List ℕ → Type 0) (structure : ℕ) (nothing : P []) (one : (c 
   item-reply : (time : ℕ) (t : List ℤ) (i : ℕ) → P (itemSent structure time t i .reply)
   unfolding itemSent
   item-reply time t i =
-      chosen (λ (s : Step). P (s .reply)) (eqb (written width (itemAt i .decimals) (answered t i) .number) none)
-      (λ _. item i _ (written-length width (itemAt i .decimals) (answered t i) (omega arith)))
+      chosen (λ (s : Step). P (s .reply)) (eqb (itemText t i .number) none)
+      (λ _. item i _ (written-length width (decimalsOf (xuOf t) i) (answered t i) (omega arith)))
       (λ _. one EOT)
 
   polled-reply : (time : ℕ) (t : List ℤ) (f : Found) → P (polled structure time t f .reply)
@@ -44,7 +43,7 @@ module _ (P : List ℕ → Type 0) (structure : ℕ) (nothing : P []) (one : (c 
 
   judged-reply : (t : List ℤ) (l : Link) (c : ℕ) → P (judged structure t l c .step .reply)
   judged-reply t l c =
-      chosen (λ (o : Outcome). P (o .step .reply)) (eqb (refusing l c) none) (λ _. one ACK) (λ _. one NAK)
+      chosen (λ (o : Outcome). P (o .step .reply)) (eqb (refusing t l c) none) (λ _. one ACK) (λ _. one NAK)
 
   performed-reply : (l : Link) (t : List ℤ) (time : ℕ) (x : Act) → P (performed l t structure time x .step .reply)
   unfolding performed

@@ -14,10 +14,11 @@ use Rattle.numbers.proofs.Tests.{contrary, both, chosen}
 use Rattle.numbers.proofs.Order.{each}
 use Rattle.items.specs.declared.Found.{Found}
 use Rattle.items.specs.declared.Found.the-variants.{At, Nothing}
-use Rattle.items.specs.ItemList.{items, itemList, found, inRange}
+use Rattle.items.specs.ItemList.{items, itemList, decimalsOf, found, inRange}
 use Rattle.items.proofs.Lists.{passes-at}
 use Rattle.items.proofs.Lookup.{found-place}
-use Rattle.table.specs.Table.{wrongLength, entryOutside, alarm, alarmsAgree, allInRange, tableFault, goodTable, startValues}
+use Rattle.table.specs.Table.{wrongLength, entryOutside, alarm, alarmsAgree, allInRange, tableFault, goodTable, xuOf, startValues}
+use Rattle.table.proofs.Decimals.{few-xu}
 use Rattle.line.specs.Line.{keeps, heard}
 use Rattle.text.specs.Reading.{readNumber, readValue}
 use Rattle.phases.specs.Decision.{decided}
@@ -110,8 +111,8 @@ module _ (l : Link) (t : List ℤ) (good : goodTable t ≡ true) (structure time
 
   judged-numbers : (c : ℕ) → oneOf byteNumbers (judged structure t l c .step .number) ≡ true
   judged-numbers c =
-      chosen (λ (o : Outcome). oneOf byteNumbers (o .step .number) ≡ true) (eqb (refusing l c) none) (λ _. refl)
-      (λ e. refused (refusing l c) (block-refuses (l .mark) (l .bcc) (l .count) (l .kept) c (eqb-false _ _ e)))
+      chosen (λ (o : Outcome). oneOf byteNumbers (o .step .number) ≡ true) (eqb (refusing t l c) none) (λ _. refl)
+      (λ e. refused (refusing t l c) (block-refuses (xuOf t) (l .mark) (l .bcc) (l .count) (l .kept) c (few-xu t) (eqb-false _ _ e)))
 
   pub act-numbers : (address c : ℕ) → Numbered (asked l address c)
   unfolding performed
@@ -124,5 +125,5 @@ module _ (l : Link) (t : List ℤ) (good : goodTable t ≡ true) (structure time
 -- ---- each number is given: the definitions compute
 
 pub numbers-given : OfNumbers
-unfolding found inRange alarm tableFault startValues keeps heard readNumber readValue decided blockItem blockValue blockNumber used inLimits performed stepFault byteFault received idleFault idled byteExamples idleExamples
+unfolding found decimalsOf inRange alarm tableFault startValues xuOf keeps heard readNumber readValue decided blockItem blockValue blockNumber used inLimits performed stepFault byteFault received idleFault idled byteExamples idleExamples
 numbers-given = record { byBytes = refl; byIdles = refl }

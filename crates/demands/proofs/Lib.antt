@@ -3,3 +3,4 @@ pub mod Fits
 pub mod Given
 pub mod Demands
 pub mod PollingOn
+pub mod Point

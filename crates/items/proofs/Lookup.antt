@@ -6,13 +6,13 @@ use mathlib.Core.List.{List, [], _∷_}
 use Prim.Native.Nat.{ℕ, suc, _-_, _<_, _≤_, _+_}
 use native.Mathlib.Omega.{arith}
 use borrow.Author.Tests.{eqb-true, leb-true, ltb-true, ne-eqb}
-use lib.Dec.{leb, ltb}
+use lib.Dec.{eqb, leb, ltb}
 use lib.ListN.{getD, length}
 use Rattle.numbers.proofs.Tests.{both}
 use Rattle.items.specs.declared.Found.{Found}
 use Rattle.items.specs.declared.Found.the-variants.{At, Nothing}
 use Rattle.items.specs.ItemList.{Item, items, listed, mapSize, itemList, noItem, itemAt, firstFrom, named, registered, found, foundByRegister, placeFound, placeOf}
-use Rattle.items.proofs.Lists.{values, values-at}
+use Rattle.items.proofs.Lists.{values, values-at, passes-at}
 
 -- the number of an item is one more than its place in the list
 pub listed-place : (number : ℕ) → listed number ≡ true → (1 ≤ number) × (number - 1 < items)
@@ -60,12 +60,24 @@ first-passes p (x ∷ xs) i j e = by (first-passes p xs (suc i) j) (p x) refl e
     by rest true t q = let z : i ≡ j = cc in (omega arith, omega arith, here z t)
     by rest false t q = let r = rest q in (omega (arith, r .0), omega (arith, r .1), there (r .0) (r .2))
 
+listed-passes : (p : Item → Bool) (j : ℕ) → firstFrom 0 p itemList ≡ At j → (j < items) × (p (itemAt j) ≡ true)
+listed-passes p j e =
+    let r = first-passes p itemList 0 j e in
+    let z : j - 0 ≡ j = omega arith in
+    (r .1, sym (ap (λ (k : ℕ). p (itemAt k)) z) ∙ r .2)
+
 pub found-place : (a b j : ℕ) → found a b ≡ At j → (j < items) × (named a b (itemAt j) ≡ true)
 unfolding found
-found-place a b j e =
-    let r = first-passes (named a b) itemList 0 j e in
-    let z : j - 0 ≡ j = omega arith in
-    (r .1, sym (ap (λ (k : ℕ). named a b (itemAt k)) z) ∙ r .2)
+found-place a b = listed-passes (named a b)
+
+pub found-register : (r j : ℕ) → foundByRegister r ≡ At j → (j < items) × (itemAt j .register ≡ r)
+unfolding foundByRegister
+found-register r j e = let q = listed-passes (registered r) j e in (q .0, eqb-true _ _ (q .1))
+
+-- each item is at the place of its identifier
+pub named-place : (i : ℕ) → i < items → placeFound (found (itemAt i .first) (itemAt i .second)) ≡ i
+unfolding found
+named-place i h = eqb-true _ _ (passes-at (λ (k : ℕ). eqb (placeFound (found (itemAt k .first) (itemAt k .second))) k) items i refl h)
 
 -- ---- the place of the item that has a register
 
@@ -76,7 +88,7 @@ module _ (r : ℕ) where
   place-small = by (foundByRegister r) refl
     where
       by : (f : Found) → foundByRegister r ≡ f → placeFound f ≤ items
-      by (At j) e = let inside = first-passes (registered r) itemList 0 j e .1 in omega arith
+      by (At j) e = let inside = found-register r j e .0 in omega arith
       by Nothing e = omega arith
 
   pub place-past : mapSize ≤ r → placeOf r ≡ items
@@ -93,19 +105,20 @@ module _ (r : ℕ) where
 
   -- the item there has the register
   pub place-registered : placeOf r < items → itemAt (placeOf r) .register ≡ r
-  unfolding foundByRegister
-  place-registered h =
-      let z : placeOf r - 0 ≡ placeOf r = omega arith in
-      let passes = first-passes (registered r) itemList 0 (placeOf r) (sym (item-has h)) .2 in
-      eqb-true _ _ (sym (ap (λ (k : ℕ). registered r (itemAt k)) z) ∙ passes)
+  place-registered h = found-register r (placeOf r) (sym (item-has h)) .1
 
   pub none-has : items ≤ placeOf r → Nothing ≡ foundByRegister r
   unfolding placeOf foundByRegister
   none-has = by (foundByRegister r) refl
     where
       by : (f : Found) → foundByRegister r ≡ f → items ≤ placeFound f → Nothing ≡ f
-      by (At j) e h = absurd (omega (arith, first-passes (registered r) itemList 0 j e .1))
+      by (At j) e h = absurd (omega (arith, found-register r j e .0))
       by Nothing e h = refl
+
+-- each item is at the place of its register
+pub own-place : (i : ℕ) → i < items → placeOf (itemAt i .register) ≡ i
+unfolding placeOf foundByRegister
+own-place i h = eqb-true _ _ (passes-at (λ (k : ℕ). eqb (placeOf (itemAt k .register)) k) items i refl h)
 
 -- a table that holds it for each register of the map, and last for those past it
 pub held-inside : (r : ℕ) → r < mapSize → getD (values placeOf (suc mapSize)) r 0 ≡ placeOf r

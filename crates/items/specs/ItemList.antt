@@ -11,7 +11,7 @@ use Rattle.sign.specs.Sign.{minus}
 use Rattle.items.specs.declared.Found.{Found}
 use Rattle.items.specs.declared.Found.the-variants.{At, Nothing}
 
--- what the list says of an item: its identifier's two characters, register, kind, decimals, limits and start value
+-- what the list says of an item: its identifier's two characters, register, kind, decimals or that XU gives them, limits and start value
 pub record Item : Type 0 where
   pub first : ℕ
   pub second : ℕ
@@ -29,6 +29,10 @@ read = false
 abbrev pub write : Bool
 write = true
 
+-- what stands for the decimals of an item that has those which XU gives; no item has so many
+abbrev pub byXU : ℕ
+byXU = 4
+
 -- a line of the list, in that order
 abbrev pub line : ℕ → ℕ → ℕ → Bool → ℕ → ℤ → ℤ → ℤ → Item
 line a b r k d l h s = record { first = a; second = b; register = r; writable = k; decimals = d; low = l; high = h; start = s }
@@ -36,31 +40,32 @@ line a b r k d l h s = record { first = a; second = b; register = r; writable = 
 -- the list, in its order; an identifier's characters are their codes, 41H being A and 31H being 1
 abbrev pub itemList : List Item
 itemList =
-    line 0x4D 0x31 0x0000 read 1 (minus 1999) (pos 9999) (pos 0)  -- M1 measured value
+    line 0x4D 0x31 0x0000 read byXU (minus 1999) (pos 9999) (pos 0)  -- M1 measured value
     ∷ line 0x41 0x41 0x0001 read 0 (pos 0) (pos 1) (pos 0)  -- AA alarm 1 state
     ∷ line 0x41 0x42 0x0002 read 0 (pos 0) (pos 1) (pos 0)  -- AB alarm 2 state
     ∷ line 0x42 0x31 0x0003 read 0 (pos 0) (pos 1) (pos 0)  -- B1 burnout
     ∷ line 0x45 0x52 0x0004 read 0 (pos 0) (pos 255) (pos 0)  -- ER error code
-    ∷ line 0x53 0x31 0x000B write 1 (minus 1999) (pos 9999) (pos 0)  -- S1 set value
-    ∷ line 0x41 0x31 0x000C write 1 (minus 1999) (pos 9999) (pos 500)  -- A1 alarm 1
-    ∷ line 0x41 0x32 0x000E write 1 (minus 1999) (pos 9999) (pos 500)  -- A2 alarm 2
+    ∷ line 0x53 0x31 0x000B write byXU (minus 1999) (pos 9999) (pos 0)  -- S1 set value
+    ∷ line 0x41 0x31 0x000C write byXU (minus 1999) (pos 9999) (pos 500)  -- A1 alarm 1
+    ∷ line 0x41 0x32 0x000E write byXU (minus 1999) (pos 9999) (pos 500)  -- A2 alarm 2
     ∷ line 0x50 0x42 0x0010 write 2 (minus 1000) (pos 1000) (pos 0)  -- PB offset
     ∷ line 0x50 0x52 0x0011 write 3 (pos 500) (pos 1500) (pos 1000)  -- PR ratio
     ∷ line 0x46 0x31 0x0012 write 0 (pos 0) (pos 100) (pos 0)  -- F1 filter
     ∷ line 0x54 0x4D 0x0008 write 0 (pos 0) (pos 999) (pos 0)  -- TM test number
+    ∷ line 0x58 0x55 0x0013 write 0 (pos 0) (pos 3) (pos 1)  -- XU decimals of M1, S1, A1 and A2
     ∷ []
 
 -- how many items there are
 abbrev pub items : ℕ
-items = 12
+items = 13
 
 -- an item has this number, counted from 1
 abbrev pub listed : ℕ → Bool
 listed number = leb 1 number && leb number items
 
--- the map is 0000H to 0012H
+-- the map is 0000H to 0013H
 abbrev pub mapSize : ℕ
-mapSize = 19
+mapSize = 20
 
 -- what stands past the list: nothing may be written to it, and no value is in its range
 abbrev pub noItem : Item
@@ -86,6 +91,10 @@ pub record Sizes : Type 0 where
 -- an item's identifier
 abbrev pub identifierOf : Item → List ℕ
 identifierOf x = x .first ∷ x .second ∷ []
+
+-- the decimals of an item on the RKC line, where XU gives so many
+unfoldable pub decimalsOf : ℕ → ℕ → ℕ
+decimalsOf xu i = cond (eqb (itemAt i .decimals) byXU) xu (itemAt i .decimals)
 
 -- a value from the item's low to its high
 abbrev pub fromLowToHigh : Item → ℤ → Bool

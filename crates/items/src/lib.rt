@@ -1,6 +1,6 @@
 // The item list: what it says of an item, and looking one up. Inside, an item is known by its place in the list, from 0.
 ghost use mathlib.Core.Path.{_≡_};
-ghost use Rattle.items.specs.ItemList.{lineOf, itemAt, identifierOf, listed, inRange, found, foundByRegister, placeOf};
+ghost use Rattle.items.specs.ItemList.{lineOf, itemAt, identifierOf, decimalsOf, listed, inRange, found, foundByRegister, placeOf};
 
 // What a search of the list finds: a place in it, or nothing.
 pub enum Found {
@@ -9,19 +9,19 @@ pub enum Found {
 }
 
 // How many items there are.
-pub const ITEMS: usize = 12;
+pub const ITEMS: usize = 13;
 
 // How many lines a column has: one for each item, and last the line that is no item.
 const LINES: usize = ITEMS + 1;
 
-// The registers from 0000H to 0012H.
-pub const MAP_SIZE: usize = 19;
+// The registers from 0000H to 0013H.
+pub const MAP_SIZE: usize = 20;
 
 // The item list, a column for each thing that it says of an item but its register, in the list's order:
-// M1, AA, AB, B1, ER, S1, A1, A2, PB, PR, F1, TM, and no item.
-const FIRST: [u8; LINES] = *b"MAABESAAPPFT\0";
+// M1, AA, AB, B1, ER, S1, A1, A2, PB, PR, F1, TM, XU, and no item.
+const FIRST: [u8; LINES] = *b"MAABESAAPPFTX\0";
 
-const SECOND: [u8; LINES] = *b"1AB1R112BR1M\0";
+const SECOND: [u8; LINES] = *b"1AB1R112BR1MU\0";
 
 pub const WRITABLE: [bool; LINES] = [
     false, // M1
@@ -36,12 +36,31 @@ pub const WRITABLE: [bool; LINES] = [
     true, // PR
     true, // F1
     true, // TM
+    true, // XU
     false, // no item
 ];
 
-const DECIMALS: [u8; LINES] = [1, 0, 0, 0, 0, 1, 1, 1, 2, 3, 0, 0, 0];
+// What stands for the decimals of an item that has those which XU gives.
+const BY_XU: u8 = 4;
 
-pub const LOW: [i32; LINES] = [-1999, 0, 0, 0, 0, -1999, -1999, -1999, -1000, 500, 0, 0, 1];
+const DECIMALS: [u8; LINES] = [BY_XU, 0, 0, 0, 0, BY_XU, BY_XU, BY_XU, 2, 3, 0, 0, 0, 0];
+
+pub const LOW: [i32; LINES] = [
+    -1999, // M1
+    0, // AA
+    0, // AB
+    0, // B1
+    0, // ER
+    -1999, // S1
+    -1999, // A1
+    -1999, // A2
+    -1000, // PB
+    500, // PR
+    0, // F1
+    0, // TM
+    0, // XU
+    1, // no item
+];
 
 pub const HIGH: [i32; LINES] = [
     9999, // M1
@@ -56,10 +75,11 @@ pub const HIGH: [i32; LINES] = [
     1500, // PR
     100, // F1
     999, // TM
+    3, // XU
     0, // no item
 ];
 
-pub const START: [i32; LINES] = [0, 0, 0, 0, 0, 0, 500, 500, 0, 1000, 0, 0, 0];
+pub const START: [i32; LINES] = [0, 0, 0, 0, 0, 0, 500, 500, 0, 1000, 0, 0, 1, 0];
 
 // The place of a register that no item has: past the list.
 const NO_ITEM: u8 = ITEMS as u8;
@@ -85,6 +105,7 @@ pub const PLACE_AT: [u8; MAP_SIZE + 1] = [
     8, // 0010H
     9, // 0011H
     10, // 0012H
+    12, // 0013H
     NO_ITEM, // past the map
 ];
 
@@ -110,11 +131,12 @@ pub fn writable(i: usize) -> bool
     WRITABLE[line_of(i)]
 }
 
-// The decimals of an item; none past the list.
-pub fn decimals(i: usize) -> u8
-    ensures { λ r. ⌜ r ≡ itemAt i .decimals ⌝ }
+// The decimals of an item on the RKC line, where XU gives so many; none past the list.
+pub fn decimals(xu: u8, i: usize) -> u8
+    ensures { λ r. ⌜ r ≡ decimalsOf xu i ⌝ }
 {
-    DECIMALS[line_of(i)]
+    let listed = DECIMALS[line_of(i)];
+    if listed == BY_XU { xu } else { listed }
 }
 
 // The lowest value of an item.

@@ -11,6 +11,7 @@ use lib.ListN.{length}
 use Rattle.numbers.specs.Numbers.{none, unless}
 use Rattle.numbers.proofs.Tests.{both, chosen}
 use Rattle.numbers.proofs.Order.{either-first, last-met, passed}
+use Rattle.items.specs.ItemList.{mapSize}
 use Rattle.registers.specs.Faults.{wrongRegister, wrongData, bodyLength, rightLength, firstWord, secondWord}
 use Rattle.registers.specs.Faults.{mostRegisters, goodQuantity, inMap, readFault}
 use Rattle.registers.specs.Faults.{dataPlace, byteCount, mostWritten, rightCounts, loopbackFault}
@@ -69,7 +70,7 @@ pub record ToRead (body : List ℕ) : Type 0 where
   pub long : length body ≡ 6
   pub some : 1 ≤ secondWord body
   pub few : secondWord body ≤ 125
-  pub span : firstWord body + secondWord body ≤ 19
+  pub span : firstWord body + secondWord body ≤ mapSize
 
 pub read-accepted : (body : List ℕ) → readFault body ≡ none → ToRead body
 unfolding readFault

@@ -11,14 +11,11 @@ use lib.IntN.{ℤ}
 use lib.ListN.{length}
 use Rattle.numbers.specs.Numbers.{none, unless, firstMet, shortBuffer, leastBuffer, badSetting}
 use Rattle.numbers.proofs.Order.{this-met, not-met, none-at, last-met, test-held}
-use Rattle.items.specs.ItemList.{itemAt}
-use Rattle.table.specs.Table.{tableFault, answered, stored}
+use Rattle.table.specs.Table.{tableFault, xuOf, stored}
 use Rattle.line.specs.Line.{ACK, NAK, sent, heard}
 use Rattle.phases.specs.Phases as phases
 use Rattle.phases.specs.Phases.{waiting}
 use Rattle.phases.specs.declared.Act.{Act}
-use Rattle.text.specs.Numbers.{width}
-use Rattle.text.specs.Writing.{written}
 use Rattle.text.specs.declared.Written.{Written}
 use Rattle.block.specs.Block.{Judges}
 use Rattle.block.specs.declared.Verdict.{Verdict}
@@ -27,7 +24,7 @@ use Rattle.block.proofs.Laws.{stores, refuses}
 use Rattle.rkc.specs.declared.Link.{Link}
 use Rattle.rkc.specs.declared.Stepped.{Stepped}
 use Rattle.rkc.specs.State.{inPhase, waitingOn, asBlock, used, inLimits}
-use Rattle.rkc.specs.Outcome.{Step, Outcome, keeping, silent, sends, quit, noRoom, dataReply, itemSent, judged, performed, asked, handedBack, done}
+use Rattle.rkc.specs.Outcome.{Step, Outcome, keeping, silent, sends, quit, noRoom, dataReply, itemText, itemSent, judged, performed, asked, handedBack, done}
 use Rattle.rkc.specs.Outcome.{badState, stepFault, ByteCall, goodSettings, byteFault, received}
 use Rattle.rkc.specs.Outcome.{IdleCall, elapsed, patience, timedOut, idleFault, passed, idled}
 use Rattle.rkc.specs.Promise.{Steps, Does}
@@ -46,7 +43,7 @@ done-by l t structure time e = ap (performed l t structure time) e
 
 -- ---- an item's number text fits, or not
 
-module _ (structure time : ℕ) (t : List ℤ) (i : ℕ) (w : Written) (e : w ≡ written width (itemAt i .decimals) (answered t i)) where
+module _ (structure time : ℕ) (t : List ℤ) (i : ℕ) (w : Written) (e : w ≡ itemText t i) where
   pub item-fits : w .number ≡ none
       → itemSent structure time t i
       ≡ record { link = waitingOn (i + 1) time; number = none; reply = map (sent structure) (dataReply i (w .chars)) }
@@ -59,16 +56,16 @@ module _ (structure time : ℕ) (t : List ℤ) (i : ℕ) (w : Written) (e : w �
 
 -- ---- a verdict on a block: a value to store, or a number
 
-module _ (structure : ℕ) (t : List ℤ) (l : Link) (c : ℕ) {v : Verdict} (j : Judges (l .mark) (l .bcc) (l .count) (l .kept) c v) where
+module _ (structure : ℕ) (t : List ℤ) (l : Link) (c : ℕ) {v : Verdict} (j : Judges (xuOf t) (l .mark) (l .bcc) (l .count) (l .kept) c v) where
   pub judged-stored : {i : ℕ} {w : ℤ} → v ≡ Store i w
       → judged structure t l c ≡ record { step = sends structure ACK (inPhase phases.answered) none; table = stored t i w }
   judged-stored {i} {w} e =
-      let s = stores (l .mark) (l .bcc) (l .count) (l .kept) c i w (subst (Judges (l .mark) (l .bcc) (l .count) (l .kept) c) e j) in
+      let s = stores (xuOf t) (l .mark) (l .bcc) (l .count) (l .kept) c i w (subst (Judges (xuOf t) (l .mark) (l .bcc) (l .count) (l .kept) c) e j) in
       rw (s .1, s .2) (simp (eq-eqb _ _ (s .0)))
 
   pub judged-refused : {n : ℕ} → v ≡ Refuse n → judged structure t l c ≡ keeping t (sends structure NAK (inPhase phases.answered) n)
   judged-refused {n} e =
-      let s = refuses (l .mark) (l .bcc) (l .count) (l .kept) c n (subst (Judges (l .mark) (l .bcc) (l .count) (l .kept) c) e j) in
+      let s = refuses (xuOf t) (l .mark) (l .bcc) (l .count) (l .kept) c n (subst (Judges (xuOf t) (l .mark) (l .bcc) (l .count) (l .kept) c) e j) in
       rw (s .0) (simp (ne-eqb n none (s .1)))
 
 -- ---- the caller's faults

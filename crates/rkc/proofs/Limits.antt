@@ -14,13 +14,11 @@ use Rattle.numbers.proofs.Tests.{both, chosen}
 use Rattle.kept.specs.Kept.{upTo}
 use Rattle.items.specs.declared.Found.{Found}
 use Rattle.items.specs.declared.Found.the-variants.{At, Nothing}
-use Rattle.items.specs.ItemList.{items, itemAt, found}
+use Rattle.items.specs.ItemList.{items, found}
 use Rattle.table.specs.Table as table
 use Rattle.items.proofs.Lookup.{found-place}
 use Rattle.line.specs.Line.{ETX, topBit, lowSeven, within}
 use Rattle.line.proofs.Laws.{within-in, within-true, low-seven-small, taken-small}
-use Rattle.text.specs.Numbers.{width}
-use Rattle.text.specs.Writing.{written}
 use Rattle.phases.specs.Phases.{oneCharacter, twoCharacters, waiting, text, bccDue, answered}
 use Rattle.phases.specs.Limits.{Listed, Limited}
 use Rattle.phases.specs.declared.Act.{Act}
@@ -29,7 +27,7 @@ use Rattle.phases.proofs.Laws.{decided-limited}
 use Rattle.rkc.specs.declared.Link.{Link}
 use Rattle.rkc.specs.State.{inPhase, holdingOne, holdingTwo, waitingOn, block, inBlock, used, isCharacter, allCharacters}
 use Rattle.rkc.specs.State.{mostCounted, blockInLimits, inLimits, oneMore, withMore, withEnd}
-use Rattle.rkc.specs.Outcome.{Step, Outcome, asked, itemSent, polled, refusing, performed}
+use Rattle.rkc.specs.Outcome.{Step, Outcome, asked, itemText, itemSent, polled, refusing, performed}
 use Rattle.rkc.proofs.Used.{used-phase, asked-used}
 
 -- an identifier's first character, and an item that is waited on
@@ -136,7 +134,7 @@ end-limits l s =
 item-limits : (structure time : ℕ) (t : List ℤ) (i : ℕ) → i < items → inLimits (itemSent structure time t i .link) ≡ true
 unfolding itemSent inLimits
 item-limits structure time t i h =
-    chosen (λ (s : Step). inLimits (s .link) ≡ true) (eqb (written width (itemAt i .decimals) (table.answered t i) .number) none)
+    chosen (λ (s : Step). inLimits (s .link) ≡ true) (eqb (itemText t i .number) none)
     (λ _. within-in 1 items (i + 1) (omega arith) (omega arith))
     (λ _. refl)
 
@@ -156,7 +154,7 @@ performed-limits l t structure time (Poll a b) s x = by (found a b) refl
     by Nothing e = refl
 performed-limits l t structure time (Send item) s x = item-limits structure time t (item - 1) (omega (arith, x .0, x .1))
 performed-limits l t structure time (Judge c) s x =
-    chosen (λ (o : Outcome). inLimits (o .step .link) ≡ true) (eqb (refusing l c) none) (λ _. refl) (λ _. refl)
+    chosen (λ (o : Outcome). inLimits (o .step .link) ≡ true) (eqb (refusing t l c) none) (λ _. refl) (λ _. refl)
 
 -- what is used of a state within its limits is within them
 pub used-in-limits : (l : Link) → inLimits l ≡ true → inLimits (used l) ≡ true

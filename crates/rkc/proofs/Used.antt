@@ -15,7 +15,8 @@ use Rattle.numbers.proofs.Tests.{contrary}
 use Rattle.numbers.proofs.Order.{none-at, test-held}
 use Rattle.kept.specs.Kept.{upTo}
 use Rattle.kept.proofs.Cut.{up-to-at, up-to-take}
-use Rattle.items.specs.ItemList.{items, itemAt}
+use Rattle.items.specs.ItemList.{items, itemAt, decimalsOf}
+use Rattle.table.specs.Table.{xuOf}
 use Rattle.text.specs.Numbers.{width}
 use Rattle.text.specs.Reading.{readValue}
 use Rattle.phases.specs.Phases.{oneCharacter, twoCharacters, waiting, text, bccDue}
@@ -50,7 +51,7 @@ used-waiting l e = rw e
 -- ---- kept characters past the count
 
 -- a block says the same without them once it has an identifier, and before that 13 is met
-module _ (count : ℕ) (kept : List ℕ) where
+module _ (xu count : ℕ) (kept : List ℕ) where
   module _ (h : leb identifierLength count ≡ true) where
     item-up-to : blockItem (upTo count kept) ≡ blockItem kept
     unfolding blockItem
@@ -58,40 +59,39 @@ module _ (count : ℕ) (kept : List ℕ) where
         let n = leb-true identifierLength count h in
         rw (up-to-at count kept 0 (omega arith), up-to-at count kept 1 (omega arith))
 
-    value-up-to : blockValue count (upTo count kept) ≡ blockValue count kept
+    value-up-to : blockValue xu count (upTo count kept) ≡ blockValue xu count kept
     unfolding blockValue
     value-up-to =
-        ap₂ (λ (i : ℕ) (cs : List ℕ). readValue width (itemAt i .decimals) (drop identifierLength cs)) item-up-to (up-to-take count kept)
+        ap₂ (λ (i : ℕ) (cs : List ℕ). readValue width (decimalsOf xu i) (drop identifierLength cs)) item-up-to (up-to-take count kept)
 
   module _ (mark : Bool) (sum c : ℕ) where
-    number-up-to : blockNumber mark sum count (upTo count kept) c ≡ blockNumber mark sum count kept c
+    number-up-to : blockNumber xu mark sum count (upTo count kept) c ≡ blockNumber xu mark sum count kept c
     unfolding blockNumber
     number-up-to = by (leb identifierLength count) refl
       where
         by : (b : Bool) → leb identifierLength count ≡ b
-            → firstMet (blockNumbers mark sum count (upTo count kept) c) ≡ firstMet (blockNumbers mark sum count kept c)
+            → firstMet (blockNumbers xu mark sum count (upTo count kept) c) ≡ firstMet (blockNumbers xu mark sum count kept c)
         by true e =
-            let decimals = ap (λ (i : ℕ). itemAt i .decimals) (item-up-to e) in
             let writable = ap (λ (i : ℕ). itemAt i .writable) (item-up-to e) in
-            rw (decimals, writable, item-up-to e, value-up-to e, up-to-take count kept)
+            rw (writable, item-up-to e, value-up-to e, up-to-take count kept)
         by false e = rw e
 
-    has-identifier : blockNumber mark sum count kept c ≡ none → leb identifierLength count ≡ true
+    has-identifier : blockNumber xu mark sum count kept c ≡ none → leb identifierLength count ≡ true
     unfolding blockNumber
-    has-identifier z = test-held _ underTwo (omega arith) (none-at (blockNumbers mark sum count kept c) 2 z)
+    has-identifier z = test-held _ underTwo (omega arith) (none-at (blockNumbers xu mark sum count kept c) 2 z)
 
 -- so the answer does not look at them
 pub judged-up-to : (structure : ℕ) (t : List ℤ) (l : Link) (c : ℕ) → judged structure t (asBlock l) c ≡ judged structure t l c
 judged-up-to structure t l c = by (leb identifierLength (l .count)) refl
   where
-    number : refusing (asBlock l) c ≡ refusing l c
-    number = number-up-to (l .count) (l .kept) (l .mark) (l .bcc) c
+    number : refusing t (asBlock l) c ≡ refusing t l c
+    number = number-up-to (xuOf t) (l .count) (l .kept) (l .mark) (l .bcc) c
 
     by : (b : Bool) → leb identifierLength (l .count) ≡ b → judged structure t (asBlock l) c ≡ judged structure t l c
-    by true e = rw (number, item-up-to (l .count) (l .kept) e, value-up-to (l .count) (l .kept) e)
+    by true e = rw (number, item-up-to (xuOf t) (l .count) (l .kept) e, value-up-to (xuOf t) (l .count) (l .kept) e)
     by false e =
-        let met : refusing l c ≢ none = λ z. contrary (sym (has-identifier (l .count) (l .kept) (l .mark) (l .bcc) c z) ∙ e) in
-        rw (number, ne-eqb (refusing l c) none met)
+        let met : refusing t l c ≢ none = λ z. contrary (sym (has-identifier (xuOf t) (l .count) (l .kept) (l .mark) (l .bcc) c z) ∙ e) in
+        rw (number, ne-eqb (refusing t l c) none met)
 
 -- ---- what a character asks for
 

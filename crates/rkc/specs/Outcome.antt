@@ -8,8 +8,8 @@ use lib.ListN.{length, getD}
 use Rattle.numbers.specs.Numbers.{none, unless, firstMet, unlessMet, shortBuffer, leastBuffer, badSetting, lastAddress}
 use Rattle.items.specs.declared.Found.{Found}
 use Rattle.items.specs.declared.Found.the-variants.{At, Nothing}
-use Rattle.items.specs.ItemList.{items, itemAt, found}
-use Rattle.table.specs.Table.{tableFault, answered, stored}
+use Rattle.items.specs.ItemList.{items, itemAt, decimalsOf, found}
+use Rattle.table.specs.Table.{tableFault, answered, xuOf, stored}
 use Rattle.line.specs.Line.{STX, ETX, EOT, ACK, NAK, lastStructure, sent, heard, bcc}
 use Rattle.text.specs.Numbers.{width}
 use Rattle.text.specs.declared.Written.{Written}
@@ -70,15 +70,19 @@ message i six = itemAt i .first ∷ itemAt i .second ∷ (six ++ (ETX ∷ []))
 unfoldable pub dataReply : ℕ → List ℕ → List ℕ
 dataReply i six = STX ∷ (message i six ++ (bcc (message i six) ∷ []))
 
+-- an item's number text: its value now, with the decimals that it has now
+abbrev pub itemText : List ℤ → ℕ → Written
+itemText t i = written width (decimalsOf (xuOf t) i) (answered t i)
+
 -- an item's number text is sent and then waited on, or EOT where its value does not fit six characters
 abbrev pub withText : ℕ → ℕ → ℕ → Written → Step
 withText structure time i w =
     unlessMet (w .number) (λ number. quit structure noRoom)
     (record { link = waitingOn (i + 1) time; number = none; reply = map (sent structure) (dataReply i (w .chars)) })
 
--- the item at a place of the list is sent, with its value now
+-- the item at a place of the list is sent
 unfoldable pub itemSent : ℕ → ℕ → List ℤ → ℕ → Step
-itemSent structure time t i = withText structure time i (written width (itemAt i .decimals) (answered t i))
+itemSent structure time t i = withText structure time i (itemText t i)
 
 -- what an identifier names is sent; an unknown one: EOT, rest
 abbrev pub polled : ℕ → ℕ → List ℤ → Found → Step
@@ -87,18 +91,18 @@ polled structure time t Nothing = quit structure unknownPolled
 
 -- ---- blocks
 
--- the number that refuses a block, once a byte was heard in the BCC's place
-abbrev pub refusing : Link → ℕ → ℕ
-refusing l c = blockNumber (l .mark) (l .bcc) (l .count) (l .kept) c
+-- the number that refuses a block, once a byte was heard in the BCC's place; its number is read with the decimals that its item has now
+abbrev pub refusing : List ℤ → Link → ℕ → ℕ
+refusing t l c = blockNumber (xuOf t) (l .mark) (l .bcc) (l .count) (l .kept) c
 
 -- the answer: NAK with that number, or ACK with the item stored
 abbrev pub judged : ℕ → List ℤ → Link → ℕ → Outcome
 judged structure t l c =
-    unlessMet (refusing l c)
+    unlessMet (refusing t l c)
     (λ number. keeping t (sends structure NAK (inPhase phases.answered) number))
     (record {
       step = sends structure ACK (inPhase phases.answered) none;
-      table = stored t (blockItem (l .kept)) (blockValue (l .count) (l .kept));
+      table = stored t (blockItem (l .kept)) (blockValue (xuOf t) (l .count) (l .kept));
     })
 
 -- ---- an act

@@ -56,30 +56,34 @@ impl Link {
         self.count <= MOST_COUNTED && self.bcc < TOP_BIT && all_characters(&front)
     }
 
-    // Whether the fields that the phase uses are within their limits.
+    // Whether the fields that the phase uses are within their limits. A block's phases are told first, since most bytes are a block's.
     fn in_limits(self) -> bool
         ensures { λ r. ⌜ r ≡ inLimits self ⌝ }
     {
         let phase = self.phase;
+        if TEXT <= phase && phase <= BCC_DUE {
+            return self.block_in_limits();
+        }
         let kept = self.kept;
         match phase {
             ONE_CHARACTER => kept[0] < TOP_BIT,
             TWO_CHARACTERS => kept[0] < TOP_BIT && kept[1] < TOP_BIT,
             WAITING => items::listed(self.item as u32),
-            TEXT..=BCC_DUE => self.block_in_limits(),
             _ => phase <= ANSWERED,
         }
     }
 
-    // What every step looks at, in this order: buffer, settings, state; 0 for no fault.
+    // What every step looks at, in this order: buffer, settings, state; 0 for no fault. Buffer and settings are told apart only in a call
+    // that has one of the two faults, so that the others take no time for it.
     fn step_fault(self, room: usize, settings: bool) -> u8
         ensures { λ r. ⌜ r ≡ stepFault self room settings ⌝ }
     {
-        if room < LEAST_BUFFER {
-            return SHORT_BUFFER;
-        }
-        if !settings {
-            return BAD_SETTING;
+        if room < LEAST_BUFFER || !settings {
+            return if room < LEAST_BUFFER {
+                SHORT_BUFFER
+            } else {
+                BAD_SETTING
+            };
         }
         if !self.in_limits() {
             return BAD_STATE;

@@ -30,14 +30,14 @@ use phases::UNKNOWN_POLLED;
 // The number of an item whose value does not fit six characters.
 const NO_ROOM: u8 = 46;
 
-// An item is sent with its value now, and waited on.
+// An item is sent with its value and its decimals now, and waited on.
 fn send_item(table: &[i32], reply: &mut [u8], structure: u8, time: u32, i: usize) -> Stepped
     requires { ⌜ (leastBuffer ≤ length (now reply)) × (i < items) ⌝ }
     ensures { λ r. ⌜ Steps (itemSent structure time (now (table .entry)) i) r
         (now (reply .entry)) (now (reply .exit)) ⌝ }
 {
     let value = table::answer(table, i);
-    let written = text::write(items::decimals(i), value);
+    let written = text::write(items::decimals(table::xu(table), i), value);
     let six = written.chars;
     if written.number == 0 {
         let chars = data_reply(i, six);
@@ -72,7 +72,8 @@ impl Link {
             (now (reply .entry)) (now (reply .exit)) (now (table .exit)) ⌝ }
     {
         let kept = self.kept;
-        match block::judge(self.mark, self.bcc, self.count, kept, c) {
+        let xu = table::xu(&table[..]);
+        match block::judge(xu, self.mark, self.bcc, self.count, kept, c) {
             Verdict::Store(i, value) => {
                 table::store(table, i, value);
                 send_one(reply, structure, ACK, in_phase(ANSWERED), 0)

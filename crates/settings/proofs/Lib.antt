@@ -1,3 +1,4 @@
 pub mod Settings
 pub mod Accepted
+pub mod Point
 pub mod Single

@@ -15,16 +15,13 @@ use Rattle.numbers.proofs.Tests.{chosen}
 use Rattle.kept.proofs.Cut.{up-to-length}
 use Rattle.items.specs.declared.Found.{Found}
 use Rattle.items.specs.declared.Found.the-variants.{At, Nothing}
-use Rattle.items.specs.ItemList.{itemAt, found}
-use Rattle.table.specs.Table.{answered}
-use Rattle.text.specs.Numbers.{width}
-use Rattle.text.specs.Writing.{written}
+use Rattle.items.specs.ItemList.{found}
 use Rattle.phases.specs.Phases.{oneCharacter, twoCharacters, waiting}
 use Rattle.phases.specs.declared.Act.{Act}
 use Rattle.phases.specs.declared.Act.the-variants.{Go, First, Both, More, Ended, Quit, Poll, Send, Judge}
 use Rattle.rkc.specs.declared.Link.{Link}
 use Rattle.rkc.specs.State.{inPhase, holdingOne, holdingTwo, waitingOn, block, inBlock, used, withMore, withEnd}
-use Rattle.rkc.specs.Outcome.{Step, Outcome, itemSent, polled, refusing, judged, performed, ByteCall, byteFault, received}
+use Rattle.rkc.specs.Outcome.{Step, Outcome, itemText, itemSent, polled, refusing, judged, performed, ByteCall, byteFault, received}
 use Rattle.rkc.specs.Outcome.{IdleCall, elapsed, patience, idleFault, idled}
 use Rattle.state.specs.State.{stateBytes, fields, unknownPhase, unpacked, packed}
 use Rattle.state.proofs.Parts.{part-elements}
@@ -80,7 +77,7 @@ module _ (structure time : ℕ) (t : List ℤ) (h : time < 2 ^ 32) where
   item-whole : (i : ℕ) → LeavesWhole (itemSent structure time t i)
   unfolding itemSent
   item-whole i =
-      chosen LeavesWhole (eqb (written width (itemAt i .decimals) (answered t i) .number) none) (λ _. waiting-whole _ time h) (λ _. in-phase-whole _)
+      chosen LeavesWhole (eqb (itemText t i .number) none) (λ _. waiting-whole _ time h) (λ _. in-phase-whole _)
 
   polled-whole : (f : Found) → LeavesWhole (polled structure time t f)
   polled-whole (At i) = item-whole i
@@ -88,7 +85,7 @@ module _ (structure time : ℕ) (t : List ℤ) (h : time < 2 ^ 32) where
 
   judged-whole : (l : Link) (c : ℕ) → LeavesWhole (judged structure t l c .step)
   judged-whole l c =
-      chosen (λ (o : Outcome). LeavesWhole (o .step)) (eqb (refusing l c) none)
+      chosen (λ (o : Outcome). LeavesWhole (o .step)) (eqb (refusing t l c) none)
       (λ _. in-phase-whole _)
       (λ _. in-phase-whole _)
 

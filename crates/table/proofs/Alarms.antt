@@ -1,6 +1,7 @@
 -- Laws of the alarm states: what making them true leaves of a table, and when they are true.
 -- Assumes nothing.
 use mathlib.Core.Path.{_≡_, refl, sym, ap, _∙_}
+use mathlib.Core.Logic.{_≢_}
 use mathlib.Core.Bool.{Bool, true, false, cond, _||_}
 use mathlib.Core.List.{List}
 use Prim.Native.Nat.{ℕ, _<_}
@@ -15,12 +16,12 @@ use Rattle.numbers.proofs.Tests.{contrary, both}
 use Rattle.sign.specs.Sign.{eqZ}
 use Rattle.sign.proofs.Laws.{eqZ-true, eqZ-same}
 use Rattle.items.specs.ItemList.{items, itemAt, found}
-use Rattle.table.specs.Table.{entry, M1, AA, AB, A1, A2, Places, isAlarmState, alarm, alarmsAgree, alarmsKept, IsTrue, AlarmsTrue}
+use Rattle.table.specs.Table.{entry, M1, AA, AB, A1, A2, XU, Places, isAlarmState, alarm, alarmsAgree, alarmsKept, IsTrue, AlarmsTrue}
 
 -- the places are those of the items
 pub places : Places
 unfolding found
-places = record { measured = refl; state1 = refl; state2 = refl; alarm1 = refl; alarm2 = refl }
+places = record { measured = refl; state1 = refl; state2 = refl; alarm1 = refl; alarm2 = refl; decimals = refl }
 
 -- ---- which items they are
 
@@ -125,3 +126,15 @@ others-decide t u i agree h same inside =
     (kept-AA u h ∙ alarm-by u t A1 (same A1 refl (lit< tt)) (same M1 refl (lit< tt)) ∙ sym (eqZ-true _ _ (p .0)))
     (kept-AB u h ∙ alarm-by u t A2 (same A2 refl (lit< tt)) (same M1 refl (lit< tt)) ∙ sym (eqZ-true _ _ (p .1)))
     (λ o. kept-other u i o ∙ same i o inside)
+
+-- where they agree in both of two tables, XU does not decide them: they are the same where all other entries are
+pub xu-no-matter : (t u : List ℤ) (i : ℕ) → alarmsAgree t ≡ true → alarmsAgree u ≡ true
+    → ((j : ℕ) → isAlarmState j ≡ false → j ≢ XU → entry u j ≡ entry t j) → i ≢ XU → entry u i ≡ entry t i
+xu-no-matter t u i agree agreeing same other =
+    let p = both (eqZ (entry t AA) (alarm t A1)) (eqZ (entry t AB) (alarm t A2)) agree in
+    let q = both (eqZ (entry u AA) (alarm u A1)) (eqZ (entry u AB) (alarm u A2)) agreeing in
+    let measured = same M1 refl (λ z. omega arith) in
+    by-state (λ (k : ℕ). entry u k ≡ entry t k) i
+    (eqZ-true _ _ (q .0) ∙ alarm-by u t A1 (same A1 refl (λ z. omega arith)) measured ∙ sym (eqZ-true _ _ (p .0)))
+    (eqZ-true _ _ (q .1) ∙ alarm-by u t A2 (same A2 refl (λ z. omega arith)) measured ∙ sym (eqZ-true _ _ (p .1)))
+    (λ o. same i o other)

@@ -1,7 +1,7 @@
 -- Laws of the table: what a good one is, that it stays good, what a store leaves alone, and how a put ends.
 -- Assumes nothing.
 use mathlib.Core.Path.{_≡_, refl, sym, ap, _∙_}
-use mathlib.Core.Logic.{_⊎_, inl, inr, ⊎-elim}
+use mathlib.Core.Logic.{_≢_, _⊎_, inl, inr, ⊎-elim}
 use mathlib.Core.Bool.{Bool, true, false, not}
 use mathlib.Core.List.{List, [], _∷_}
 use Prim.Native.Nat.{ℕ, zero, suc, _-_, _<_}
@@ -17,16 +17,16 @@ use Rattle.numbers.specs.Promise.{Lent}
 use Rattle.numbers.proofs.Tests.{contrary, both, chosen}
 use Rattle.numbers.proofs.Order.{none-met, test-held}
 use Rattle.items.specs.ItemList.{Item, items, listed, itemList, noItem, itemAt, fromLowToHigh, inRange}
-use Rattle.table.specs.Table.{wrongLength, entryOutside, noSuchItem, valueOutside, entry, AA, AB, A1, A2, isAlarmState, alarm}
+use Rattle.table.specs.Table.{wrongLength, entryOutside, noSuchItem, valueOutside, entry, AA, AB, A1, A2, XU, isAlarmState, alarm}
 use Rattle.table.specs.Table.{alarmsAgree, alarmsKept, allInRange, tableFault, goodTable, startValues, stored, mayPut}
-use Rattle.table.specs.Table.{putNumber, putTable, AlarmsTrue}
-use Rattle.table.proofs.Alarms.{alarm-is, agree-true, kept-length, kept-other, kept-agree, others-decide}
+use Rattle.table.specs.Table.{putNumber, putTable, SameButXU, AlarmsTrue}
+use Rattle.table.proofs.Alarms.{alarm-is, agree-true, kept-length, kept-other, kept-agree, others-decide, xu-no-matter}
 
 -- ---- a good table
 
--- what a good table is: twelve entries, each in its range, and true alarm states
+-- what a good table is: an entry for each item, each in its range, and true alarm states
 record Good (t : List ℤ) : Type 0 where
-  twelve : length t ≡ items
+  counted : length t ≡ items
   inside : allInRange itemList t ≡ true
   agree : alarmsAgree t ≡ true
 
@@ -39,14 +39,14 @@ good-parts t g =
     let after-none = none-met long (ranged ∷ alarms ∷ []) (eqb-true (tableFault t) none g) in
     let after-long = none-met ranged (alarms ∷ []) (after-none .1) in
     record {
-      twelve = eqb-true _ _ (test-held _ wrongLength (omega arith) (after-none .0));
+      counted = eqb-true _ _ (test-held _ wrongLength (omega arith) (after-none .0));
       inside = test-held _ entryOutside (omega arith) (after-long .0);
       agree = test-held _ entryOutside (omega arith) (none-met alarms [] (after-long .1) .0);
     }
 
 good-from : {t : List ℤ} → Good t → goodTable t ≡ true
 unfolding tableFault
-good-from g = rw (eq-eqb _ _ (g .twelve), g .inside, g .agree)
+good-from g = rw (eq-eqb _ _ (g .counted), g .inside, g .agree)
 
 all-at : (xs : List Item) (t : List ℤ) (i : ℕ) → allInRange xs t ≡ true → i < length xs → i < length t
     → fromLowToHigh (getD xs i noItem) (entry t i) ≡ true
@@ -57,12 +57,12 @@ all-at (x ∷ xs) (v ∷ t) (suc i) a h k =
     all-at xs t i (both (fromLowToHigh x v) (allInRange xs t) a .1) (le-of-suc-le-suc h) (le-of-suc-le-suc k)
 
 pub good-length : (t : List ℤ) → goodTable t ≡ true → length t ≡ items
-good-length t g = good-parts t g .twelve
+good-length t g = good-parts t g .counted
 
 -- each entry of a good table is in its range
 pub good-entry : (t : List ℤ) (i : ℕ) → goodTable t ≡ true → i < items → inRange i (entry t i) ≡ true
 unfolding inRange
-good-entry t i g h = let p = good-parts t g in all-at itemList t i (p .inside) h (omega (arith, p .twelve))
+good-entry t i g h = let p = good-parts t g in all-at itemList t i (p .inside) h (omega (arith, p .counted))
 
 -- its alarm states are true
 pub good-alarms : (t : List ℤ) → goodTable t ≡ true → AlarmsTrue t
@@ -74,7 +74,7 @@ pub good-others : (t u : List ℤ) → goodTable t ≡ true → length u ≡ ite
 good-others t u g l same =
     let p = good-parts t g in
     let long = kept-length u ∙ l in
-    ext-getD (pos 0) (alarmsKept u) t (long ∙ sym (p .twelve))
+    ext-getD (pos 0) (alarmsKept u) t (long ∙ sym (p .counted))
     (λ i h. others-decide t u i (p .agree) (omega (arith, l)) same (omega (arith, long)))
 
 -- so two good tables are the same where their other entries are
@@ -82,6 +82,14 @@ pub good-same : (t u : List ℤ) → goodTable t ≡ true → goodTable u ≡ tr
     → ((i : ℕ) → isAlarmState i ≡ false → i < items → entry u i ≡ entry t i) → u ≡ t
 good-same t u g h same =
     sym (good-others u u h (good-length u h) (λ i s k. refl)) ∙ good-others t u g (good-length u h) same
+
+-- and two are the same but for XU where their entries are that are neither XU's nor those of alarm states
+pub good-but-xu : (t u : List ℤ) → goodTable t ≡ true → goodTable u ≡ true
+    → ((j : ℕ) → isAlarmState j ≡ false → j ≢ XU → entry u j ≡ entry t j) → SameButXU t u
+good-but-xu t u g h same = record {
+  long = good-length u h ∙ sym (good-length t g);
+  others = λ j other. xu-no-matter t u j (good-parts t g .agree) (good-parts u h .agree) same other;
+}
 
 -- the start table is good
 pub good-start : goodTable startValues ≡ true
@@ -118,10 +126,10 @@ pub good-stored : (t : List ℤ) (i : ℕ) (v : ℤ) → goodTable t ≡ true �
 unfolding inRange
 good-stored t i v g r =
     let p = good-parts t g in
-    let long = length-set t i v ∙ p .twelve in
+    let long = length-set t i v ∙ p .counted in
     by-store (λ (s : List ℤ). goodTable s ≡ true) t i v g
     (good-from (record {
-      twelve = kept-length (set t i v) ∙ long;
+      counted = kept-length (set t i v) ∙ long;
       inside = all-kept (set t i v) (all-set itemList t i v (p .inside) r);
       agree = kept-agree (set t i v) (omega (arith, long));
     }))
@@ -140,7 +148,16 @@ pub stored-other : (t : List ℤ) (i j : ℕ) (v : ℤ) → isAlarmState j ≡ f
 stored-other t i j v o h =
     by-store (λ (s : List ℤ). entry s j ≡ entry t j) t i v refl (kept-other (set t i v) j o ∙ getD-set-other t i j v (pos 0) h)
 
--- so a store to a writable item leaves the read-only ones, the alarm states apart
+-- so a store of the number that an item has leaves a good table as it is
+pub stored-own : (t : List ℤ) (i : ℕ) → goodTable t ≡ true → i < items → stored t i (entry t i) ≡ t
+stored-own t i g h =
+    good-same t (stored t i (entry t i)) g (good-stored t i (entry t i) g (good-entry t i g h)) (λ j o k. by j o (eqb j i) refl)
+  where
+    by : (j : ℕ) → isAlarmState j ≡ false → (b : Bool) → eqb j i ≡ b → entry (stored t i (entry t i)) j ≡ entry t j
+    by j o true e = rw (eqb-true j i e) (stored-same t i (entry t i) (rw (eqb-true j i e) at o) (omega (arith, h, good-length t g)))
+    by j o false e = stored-other t i j (entry t i) o (eqb-false j i e)
+
+-- and a store to a writable item leaves the read-only ones, the alarm states apart
 pub stored-read-only : (t : List ℤ) (i j : ℕ) (v : ℤ) → itemAt i .writable ≡ true → itemAt j .writable ≡ false → isAlarmState j ≡ false
     → entry (stored t i v) j ≡ entry t j
 stored-read-only t i j v w r o =
@@ -226,3 +243,10 @@ good-put t n v g =
     chosen (λ (s : List ℤ). goodTable s ≡ true) (eqb (putNumber t n v) none)
     (λ e. good-stored t (n - 1) v g (accepted-in-range t n v (eqb-true _ _ e)))
     (λ _. g)
+
+-- a put to XU, refused or not, changes no other entry
+pub put-but-xu : (t : List ℤ) (v : ℤ) → goodTable t ≡ true → SameButXU t (putTable t (suc XU) v)
+unfolding putTable
+put-but-xu t v g =
+    good-but-xu t (putTable t (suc XU) v) g (good-put t (suc XU) v g)
+    (λ j o other. chosen (λ (s : List ℤ). entry s j ≡ entry t j) (eqb (putNumber t (suc XU) v) none) (λ _. stored-other t XU j v o other) (λ _. refl))

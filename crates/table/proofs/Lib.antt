@@ -1,4 +1,5 @@
 pub mod Alarms
+pub mod Decimals
 pub mod Turns
 pub mod Laws
 pub mod Single

@@ -17,6 +17,9 @@ start = record { asksNothing = λ κs a. tt; single = λ κs a o u p q. let e = 
 pub answer : OneOutcome table.answer.ended table.answer.Reads.Asked table.answer.Reads.Post
 answer = record { asksNothing = λ κs a. tt; single = λ κs a o u p q. single p q & refl }
 
+pub xu : OneOutcome table.xu.ended table.xu.Reads.Asked table.xu.Reads.Post
+xu = record { asksNothing = λ κs a. tt; single = λ κs a o u p q. single p q & refl }
+
 pub store : OneOutcome table.store.ended table.store.Reads.Asked table.store.Reads.Post
 store = record { asksNothing = λ κs a. tt; single = λ κs a o u p q. refl & single p q & refl }
 

@@ -1,10 +1,12 @@
--- The lent table: one entry per item, in the list's order. The alarm states, AA and AB, stand in it and are kept true.
+-- The lent table: one entry per item, in the list's order. The alarm states, AA and AB, stand in it and are kept true; XU gives the decimals
+-- of some items.
 use Prim.Native.Nat.{ℕ, _-_}
 use mathlib.Core.Path.{_≡_}
+use mathlib.Core.Logic.{_≢_}
 use mathlib.Core.Bool.{Bool, true, false, not, cond, _&&_, _||_}
 use mathlib.Core.List.{List, [], _∷_, map}
 use lib.Dec.{eqb, ltb}
-use lib.IntN.{ℤ, pos}
+use lib.IntN.{ℤ, pos, natAbs}
 use lib.ListN.{getD, set, length}
 use lib.Signed.{leZ}
 use Rattle.numbers.specs.Numbers.{none, unless, firstMet, unlessMet}
@@ -47,13 +49,18 @@ A1 = 6
 abbrev pub A2 : ℕ
 A2 = 7
 
--- they are the places at which these identifiers are found: 4DH is M, 41H A, 42H B, 31H 1 and 32H 2
+-- the place of XU
+abbrev pub XU : ℕ
+XU = 12
+
+-- they are the places at which these identifiers are found: 4DH is M, 41H A, 42H B, 31H 1, 32H 2, 58H X and 55H U
 pub record Places : Type 0 where
   pub measured : found 0x4D 0x31 ≡ At M1
   pub state1 : found 0x41 0x41 ≡ At AA
   pub state2 : found 0x41 0x42 ≡ At AB
   pub alarm1 : found 0x41 0x31 ≡ At A1
   pub alarm2 : found 0x41 0x32 ≡ At A2
+  pub decimals : found 0x58 0x55 ≡ At XU
 
 -- whether an item is one of the two
 abbrev pub isAlarmState : ℕ → Bool
@@ -108,6 +115,10 @@ startTable t = unlessMet (startNumber t) (λ number. t) startValues
 unfoldable pub answered : List ℤ → ℕ → ℤ
 answered t i = entry t i
 
+-- the decimals that XU gives: its entry, and none where that is outside its range, which it is in no good table
+unfoldable pub xuOf : List ℤ → ℕ
+xuOf t = cond (inRange XU (entry t XU)) (natAbs (entry t XU)) 0
+
 -- the table after the item at a place took a value: AA and AB are true again. Past the table's end there is no item, and
 -- nothing happens.
 unfoldable pub stored : List ℤ → ℕ → ℤ → List ℤ
@@ -125,6 +136,13 @@ putNumber t n v = firstMet (tableFault t ∷ unless (listed n) noSuchItem ∷ un
 -- it stores the value where no number is met, and else leaves the table
 unfoldable pub putTable : List ℤ → ℕ → ℤ → List ℤ
 putTable t n v = unlessMet (putNumber t n v) (λ number. t) (stored t (n - 1) v)
+
+-- ---- what a write of XU changes
+
+-- two tables are the same but for XU: every other entry is the same, the alarm states too
+pub record SameButXU (t u : List ℤ) : Type 0 where
+  pub long : length u ≡ length t
+  pub others : (j : ℕ) → j ≢ XU → entry u j ≡ entry t j
 
 -- ---- what a lamp routine sees that looks at the table and asks nobody
 

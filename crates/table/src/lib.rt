@@ -1,11 +1,11 @@
 // The lent table, which has one entry for each item: its check, its start values, what either line answers for an item,
-// storing a value, and the firmware's put. The alarm states, AA and AB, stand in it and are kept true.
+// storing a value, and the firmware's put. The alarm states, AA and AB, stand in it and are kept true; XU gives the decimals of some items.
 ghost use mathlib.Core.Path.{_≡_};
 ghost use lib.ListN.{length, set};
 ghost use Rattle.numbers.specs.Promise.{Lent};
 ghost use Rattle.items.specs.ItemList.{items, itemList};
 ghost use Rattle.table.specs.Table.{isAlarmState, entry, alarm, alarmsAgree, alarmsKept, allInRange, tableFault};
-ghost use Rattle.table.specs.Table.{startNumber, startTable, answered, stored, mayPut, putNumber, putTable};
+ghost use Rattle.table.specs.Table.{xuOf, startNumber, startTable, answered, stored, mayPut, putNumber, putTable};
 use numbers::NONE;
 
 // The places of the alarm states, AA and AB, and of the items that they go by.
@@ -18,6 +18,9 @@ const AB: usize = 2;
 const A1: usize = 6;
 
 const A2: usize = 7;
+
+// The place of XU.
+const XU: usize = 12;
 
 // Numbers given back. 2 is also given for an alarm state that is not true, and 7 for a put to one.
 pub const WRONG_LENGTH: u8 = 1;
@@ -148,6 +151,18 @@ pub fn answer(table: &[i32], i: usize) -> i32
     ensures { λ r. ⌜ r ≡ answered (now (table .entry)) i ⌝ }
 {
     entry_at(table, i)
+}
+
+// The decimals that XU gives: its entry, and none where that is outside its range, which it is in no good table.
+pub fn xu(table: &[i32]) -> u8
+    ensures { λ r. ⌜ r ≡ xuOf (now (table .entry)) ⌝ }
+{
+    let value = entry_at(table, XU);
+    if items::in_range(XU, value) {
+        value as u8
+    } else {
+        0
+    }
 }
 
 // An item takes a value, and AA and AB are made true again. Past the table's end nothing happens: if they were made true there too,

@@ -1,5 +1,6 @@
 pub mod Limits
 pub mod Numerals
+pub mod Point
 pub mod Readings
 pub mod RoundTrip
 pub mod Single

@@ -28,7 +28,7 @@ use Rattle.text.proofs.Texts.{enough-room, fitting, text-length}
 
 -- ---- the point is found
 
-no-point : (c : ℕ) → isDigit c ≡ true → c ≡ point → ⊥
+pub no-point : (c : ℕ) → isDigit c ≡ true → c ≡ point → ⊥
 no-point c d e = let p = digit-range c d in omega arith
 
 point-after : (xs ys : List ℕ) → allDigits xs ≡ true → pointAt (xs ++ (point ∷ ys)) ≡ length xs

@@ -9,7 +9,7 @@ use borrow.Author.Tests.{not-true, not-false}
 use lib.ListN.{getD}
 use Rattle.sign.proofs.Laws.{same}
 use Rattle.line.specs.Line.{isLineError}
-use Rattle.items.specs.ItemList.{itemAt, found, inRange}
+use Rattle.items.specs.ItemList.{itemAt, decimalsOf, found, inRange}
 use Rattle.items.specs.declared.Found.the-variants.{At}
 use Rattle.text.specs.Numbers.{width}
 use Rattle.text.specs.Reading.{ReadAs}
@@ -62,21 +62,21 @@ returns-4 c =
 abbrev call : tie.After-i → tie.Start
 call c = c .before .before .before .before .before .before .before
 
-at : (c : tie.After-i) → found (getD (call c .args .t4) 0 0) (getD (call c .args .t4) 1 0) ≡ At (c .i .given .0 .0)
+at : (c : tie.After-i) → found (getD (call c .args .t5) 0 0) (getD (call c .args .t5) 1 0) ≡ At (c .i .given .0 .0)
 at c = sym (c .before .before .find .ensures) ∙ c .i .given .1
 
 -- it is the block's item
-item : (c : tie.After-i) → blockItem (call c .args .t4) ≡ c .i .given .0 .0
-item c = place (call c .args .t4) (c .i .given .0 .0) (at c)
+item : (c : tie.After-i) → blockItem (call c .args .t5) ≡ c .i .given .0 .0
+item c = place (call c .args .t5) (c .i .given .0 .0) (at c)
 
-named : (c : tie.After-i) → let s = call c .args in Named (s .mark) (s .bcc) (s .count) (s .t4) (s .c)
+named : (c : tie.After-i) → let s = call c .args in Named (s .mark) (s .bcc) (s .count) (s .t5) (s .c)
 named c =
     let e = c .before .before .before in
     record {
       heard = heard (e .before .before);
       same = e .before .if3 .left;
       two = omega arith;
-      item = listed (call c .args .t4) (c .i .given .0 .0) (at c);
+      item = listed (call c .args .t5) (c .i .given .0 .0) (at c);
     }
 
 returns-5 : tie.Need-returns-5
@@ -112,12 +112,12 @@ found-for c = c .before .before .before .before .before .before
 
 -- the part that was lent has the data characters, and the item's decimals are the block's
 read : (c : tie.After-read) {r : Reading} → c .read .result ≡ r
-    → let s = call (found-for c) .args in ReadAs width (blockDecimals (s .t4)) (dataCharacters (s .count) (s .t4)) r
+    → let s = call (found-for c) .args in ReadAs width (blockDecimals (s .xu) (s .t5)) (dataCharacters (s .count) (s .t5)) r
 read c e =
     let i = found-for c in
     let s = call i .args in
-    let d = c .before .before .before .decimals .ensures ∙ ap (λ (k : ℕ). itemAt k .decimals) (sym (item i)) in
-    read-by d (data-part (s .count) (s .t4) (named i .two) (search needs)) e (c .read .ensures)
+    let d = c .before .before .before .decimals .ensures ∙ ap (decimalsOf (s .xu)) (sym (item i)) in
+    read-by d (data-part (s .count) (s .t5) (named i .two) (search needs)) e (c .read .ensures)
 
 returns-6 : tie.Need-returns-6
 returns-6 c =
@@ -140,16 +140,16 @@ reading c = c .before .before .before
 
 -- the value, and the item's kind and range, as the calls gave them
 valued : (c : tie.After-known-told2) → let s = call (found-for (reading c)) .args in
-    Valued (s .count) (s .t4) (c .before .read2 .given .0 .0)
+    Valued (s .xu) (s .count) (s .t5) (c .before .read2 .given .0 .0)
 valued c = record { whole = omega arith; read = read (reading c) (c .before .read2 .given .1) }
 
 kind : (c : tie.After-writable) {b : Bool} → c .writable .result ≡ b
-    → itemAt (blockItem (call (found-for (reading (c .before))) .args .t4)) .writable ≡ b
+    → itemAt (blockItem (call (found-for (reading (c .before))) .args .t5)) .writable ≡ b
 kind c e = ap (λ (k : ℕ). itemAt k .writable) (item (found-for (reading (c .before)))) ∙ sym (c .writable .ensures) ∙ e
 
 ranged : (c : tie.After-in-range) {b : Bool} → c .in-range .result ≡ b
     → let t = c .before .before .before in
-    inRange (blockItem (call (found-for (reading t)) .args .t4)) (t .before .read2 .given .0 .0) ≡ b
+    inRange (blockItem (call (found-for (reading t)) .args .t5)) (t .before .read2 .given .0 .0) ≡ b
 ranged c e =
     let t = c .before .before .before in
     ap₂ inRange (item (found-for (reading t))) (sym (same (t .before .read2 .given .0 .0) (t .known-told2 .given .0 .1)))

@@ -70,9 +70,9 @@ unfolding startNumber startTable startValues
 returns-2 c =
     let l = c .before in
     let t = l .before .before .args .table .now in
-    let twelve = l .before .if1 .left in
+    let counted = l .before .if1 .left in
     let end = ap (λ (vs : List ℤ). sets (l .loop .table) (l .loop .i) vs) (sym (drop-of-length-le startValues {i = l .loop .i} (c .loop-test .left))) ∙ l .loop .inv .2 in
-    record { given = simp (eq-eqb _ _ twelve); left = simp (eq-eqb _ _ twelve) (end ∙ store-all t startValues twelve) }
+    record { given = simp (eq-eqb _ _ counted); left = simp (eq-eqb _ _ counted) (end ∙ store-all t startValues counted) }
 
 pub start-spec : {M : Type 1} → statement M
 start-spec =

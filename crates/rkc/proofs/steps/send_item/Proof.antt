@@ -3,16 +3,16 @@ use borrow.Author.Needs.{needs}
 use mathlib.Core.Path.{_≡_, _∙_}
 use lib.ListN.{length-map}
 use Rattle.sign.proofs.Laws.{same}
-use Rattle.items.specs.ItemList.{itemAt}
-use Rattle.table.specs.Table.{answered}
-use Rattle.text.specs.Numbers.{width}
-use Rattle.text.specs.Writing.{written}
+use Rattle.rkc.specs.Outcome.{itemText}
 use Rattle.rkc.proofs.Cases.{steps-by, item-fits, item-too-long}
 use Rattle.rkc.proofs.steps.send_item.Statement.{statement}
 use Rattle.rkc.proofs.steps.send_item.Tie as tie
 
 answer-requires : tie.Need-answer-requires
 answer-requires c κs = search needs
+
+xu-requires : tie.Need-xu-requires
+xu-requires c κs = search needs
 
 decimals-requires : tie.Need-decimals-requires
 decimals-requires c κs = search needs
@@ -44,13 +44,13 @@ quit-requires c κs = search needs
 same-length : tie.Need-same-length
 same-length c = search needs
 
--- the number text is that of the answer at the item's decimals
+-- the number text is that of the answer, at the decimals that XU gives or the item has
 text-is : (c : tie.After-write) →
-    let s = c .before .before .before .before in
-    c .write .result ≡ written width (itemAt (s .args .i) .decimals) (answered (s .args .table .now) (s .args .i))
+    let s = c .before .before .before .before .before in
+    c .write .result ≡ itemText (s .args .table .now) (s .args .i)
 text-is c =
-    let value = c .before .before .answer in
-    c .write .ensures ∙ rw (c .before .decimals .ensures, same (value .result) (value .ok) ∙ value .ensures)
+    let value = c .before .before .before .answer in
+    c .write .ensures ∙ rw (c .before .decimals .ensures, c .before .before .xu .ensures, same (value .result) (value .ok) ∙ value .ensures)
 
 returns : tie.Need-returns
 returns c =
@@ -74,6 +74,7 @@ send-item-spec =
     tie.close
     (tie.spec
     answer-requires
+    xu-requires
     decimals-requires
     write-requires
     data-reply-requires
