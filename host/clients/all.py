@@ -7,6 +7,7 @@ import ascii_checks
 import lamp_checks
 import modbus_checks
 import playback_checks
+import point_checks
 import program_checks
 import record_checks
 import rkc_checks
@@ -35,6 +36,7 @@ def main():
         playback_checks.run(checks, command)
         rkc_checks.run(checks, command)
         lamp_checks.run(checks, command, (Mbpoll, Pymodbus, PymodbusAscii))
+        point_checks.run(checks, command, (Mbpoll, Pymodbus, PymodbusAscii))
     except SystemExit:
         checks.fail("the rest", "broken off")
     checks.total()

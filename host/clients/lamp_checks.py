@@ -8,7 +8,7 @@ from functools import partial
 
 import panel
 from checks import Simulator, exchange
-from modbus_checks import WRITTEN
+from modbus_checks import WRITTEN, words_for
 from rkc_checks import ACKNOWLEDGED
 from rkc_host import Host, block, open_port
 
@@ -23,6 +23,9 @@ STEPS = (
     Step({"A2": 1}, True, (1, 0)),
     Step({"A2": 0}, True, (1, 1)),
     Step({"S1": 9999}, True, (1, 1)),
+    Step({"XU": 3}, True, (1, 1)),
+    Step({"XU": 4}, False, (1, 1)),
+    Step({"XU": 1}, True, (1, 1)),
     Step({"A1": 10000}, False, (1, 1)),
     Step({"M1": -1}, False, (1, 1)),
     Step({"AA": 0}, False, (1, 1)),
@@ -171,9 +174,9 @@ def run(checks, command, clients):
     with checks.of("lamps"):
         all_lines(checks, command)
     for client_of in clients:
-        words = (client_of.MODE, "--address", str(client_of.ADDRESS), "--baud", str(client_of.BAUD))
         with checks.of(f"lamps, {client_of.NAME}"):
-            follow(checks, command, words, partial(ModbusPanel, client_of), STEPS + TOGETHER, 1)
+            way = partial(ModbusPanel, client_of)
+            follow(checks, command, words_for(client_of), way, STEPS + TOGETHER, 1)
     for structure in (0, 1, 2):
         with checks.of(f"lamps, rkc {structure}"):
             words = ("rkc", "--structure", str(structure))

@@ -28,10 +28,18 @@ SPOILT = (
     (0x0003, 2),  # read-only, both
     (0x0004, 5),  # read-only, the first, with TM as the last
     (0x0000, panel.MAP_LENGTH),  # the whole map
-    (0x0012, 2),  # past the map, behind F1
-    (0x0010, 4),  # past the map, behind three that may be written
+    (0x0013, 2),  # past the map, behind XU
+    (0x0010, 5),  # past the map, behind four that may be written
     (0xFFFF, 2),  # past FFFFH
     (0x0010, 123),  # as many as a request can have
+)
+
+# Reads, as start and quantity, of which a register is past the map.
+PAST_THE_MAP = (
+    (0, panel.MAP_LENGTH + 1),
+    (panel.MAP_LENGTH - 1, 2),
+    (panel.MAP_LENGTH, 1),
+    (0xFFFF, 125),
 )
 
 # Outside every item's range.
@@ -49,18 +57,17 @@ def refuses(checks, client, name, code, write):
     checks.same(name, got, (exception(code), before))
 
 
-def writes(checks, client):
-    """Each writable register at both ends of its range, and refused outside."""
-    for item in panel.WRITABLE:
-        for value in (item.low, item.high):
-            register = panel.register_of(value)
-            got = (client.write(item.register, register), client.read(item.register, 1))
-            checks.same(f"{item.name} takes {value}", got, (WRITTEN, [register]))
-        for value in panel.outside(item):
-            got = client.write(item.register, panel.register_of(value))
-            checks.same(f"{item.name} refuses {value}", got, exception(ILLEGAL_VALUE))
-        got = client.read(item.register, 1)
-        checks.same(f"{item.name} still has {item.high}", got, [panel.register_of(item.high)])
+def ends(checks, client, item):
+    """A writable register at both ends of its range, and refused outside."""
+    for value in (item.low, item.high):
+        register = panel.register_of(value)
+        got = (client.write(item.register, register), client.read(item.register, 1))
+        checks.same(f"{item.name} takes {value}", got, (WRITTEN, [register]))
+    for value in panel.outside(item):
+        got = client.write(item.register, panel.register_of(value))
+        checks.same(f"{item.name} refuses {value}", got, exception(ILLEGAL_VALUE))
+    got = client.read(item.register, 1)
+    checks.same(f"{item.name} still has {item.high}", got, [panel.register_of(item.high)])
 
 
 def together(checks, client):
@@ -102,7 +109,7 @@ def refusals(checks, client):
     for register in panel.UNWRITABLE:
         got = client.write(register, 0)
         checks.same(f"register {register:04X}H refuses 0", got, exception(ILLEGAL_ADDRESS))
-    for start, quantity in ((0, 20), (18, 2), (19, 1), (0xFFFF, 125)):
+    for start, quantity in PAST_THE_MAP:
         got = client.read(start, quantity)
         name = f"read of {quantity} from {start:04X}H"
         checks.same(name, got, exception(ILLEGAL_ADDRESS))
@@ -110,13 +117,18 @@ def refusals(checks, client):
     checks.same("read from another address", got, SILENCE)
 
 
+def words_for(client_of):
+    """The words by which a simulator serves this client."""
+    return (client_of.MODE, "--address", str(client_of.ADDRESS), "--baud", str(client_of.BAUD))
+
+
 def run(checks, command, client_of):
-    words = (client_of.MODE, "--address", str(client_of.ADDRESS), "--baud", str(client_of.BAUD))
-    with checks.of(client_of.NAME), Simulator(command, *words) as simulator:
+    with checks.of(client_of.NAME), Simulator(command, *words_for(client_of)) as simulator:
         with contextlib.closing(client_of(simulator.port)) as client:
             got = client.read(0, panel.MAP_LENGTH)
             checks.same("all registers at the start", got, panel.start_registers())
-            writes(checks, client)
+            for item in panel.WRITABLE:
+                ends(checks, client, item)
             together(checks, client)
             spoilt(checks, client)
             alarm_states(checks, client)

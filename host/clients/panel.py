@@ -5,25 +5,29 @@ from decimal import Decimal
 
 Item = namedtuple("Item", "name register writable decimals low high start")
 
+# The decimals of an item that has as many as XU says.
+OF_XU = None
+
 ITEMS = (
-    Item("M1", 0x0000, False, 1, -1999, 9999, 0),
+    Item("M1", 0x0000, False, OF_XU, -1999, 9999, 0),
     Item("AA", 0x0001, False, 0, 0, 1, 0),
     Item("AB", 0x0002, False, 0, 0, 1, 0),
     Item("B1", 0x0003, False, 0, 0, 1, 0),
     Item("ER", 0x0004, False, 0, 0, 255, 0),
-    Item("S1", 0x000B, True, 1, -1999, 9999, 0),
-    Item("A1", 0x000C, True, 1, -1999, 9999, 500),
-    Item("A2", 0x000E, True, 1, -1999, 9999, 500),
+    Item("S1", 0x000B, True, OF_XU, -1999, 9999, 0),
+    Item("A1", 0x000C, True, OF_XU, -1999, 9999, 500),
+    Item("A2", 0x000E, True, OF_XU, -1999, 9999, 500),
     Item("PB", 0x0010, True, 2, -1000, 1000, 0),
     Item("PR", 0x0011, True, 3, 500, 1500, 1000),
     Item("F1", 0x0012, True, 0, 0, 100, 0),
     Item("TM", 0x0008, True, 0, 0, 999, 0),
+    Item("XU", 0x0013, True, 0, 0, 3, 1),
 )
 
 WRITABLE = tuple(row for row in ITEMS if row.writable)
 
-# The map is 0000H to 0012H.
-MAP_LENGTH = 19
+# The map is 0000H to 0013H.
+MAP_LENGTH = 20
 
 # Registers that no host may write: read-only, unlisted, and the first one past the map.
 UNWRITABLE = sorted(set(range(MAP_LENGTH + 1)) - {row.register for row in WRITABLE})
@@ -39,7 +43,7 @@ def item(name):
 # Writable items whose registers follow each other.
 NEIGHBOURS = (
     (item("S1"), item("A1")),
-    (item("PB"), item("PR"), item("F1")),
+    (item("PB"), item("PR"), item("F1"), item("XU")),
 )
 
 
@@ -79,10 +83,12 @@ def one_outside(rows):
             yield tuple(values)
 
 
-def text_of(row, value):
-    """A value as the panel writes it: six characters, a minus first, zeros on the left."""
-    number = Decimal(value).scaleb(-row.decimals)
-    return format(number, f"0{TEXT_LENGTH}.{row.decimals}f")
+def text_of(row, value, xu=1):
+    """A value as the panel writes it: six characters, a minus first, zeros on the left. XU is 1 at
+    the start."""
+    decimals = xu if row.decimals is OF_XU else row.decimals
+    number = Decimal(value).scaleb(-decimals)
+    return format(number, f"0{TEXT_LENGTH}.{decimals}f")
 
 
 def number_of(text):

@@ -39,7 +39,7 @@ def outcome(response, **repeated):
 
 def of_three(start, quantity=3, byte_count=6):
     """What stands behind function 10H where the lowest values of PB, PR and F1 are written."""
-    registers = panel.registers_of(row.low for row in panel.NEIGHBOURS[-1])
+    registers = panel.registers_of(row.low for row in panel.NEIGHBOURS[-1][:3])
     return struct.pack(">HHB3H", start, quantity, byte_count, *registers)
 
 

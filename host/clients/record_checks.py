@@ -74,10 +74,12 @@ SESSION = (
     write("PR", 500),
     write("F1", 100),
     write("TM", 999),
+    write("XU", 0),
     read(panel.item("TM").register, 1, [999]),
     write_together("S1", (77, -1999)),
-    write_together("PB", (1000, 1500, 7)),
+    write_together("PB", (1000, 1500, 7, 3)),
     write("TM", 1000, exception(ILLEGAL_VALUE)),
+    write("XU", 4, exception(ILLEGAL_VALUE)),
     write("M1", 1, exception(ILLEGAL_ADDRESS)),
     write_together("S1", (1, 10000), exception(ILLEGAL_VALUE)),
     write_together("A1", (1, 1, 1), exception(ILLEGAL_ADDRESS)),
@@ -89,13 +91,14 @@ RECORDS = len(SESSION) + 1
 
 # Each item's last write in a session. What is refused behind it is not one.
 LAST_WRITES = {
-    "S1": found(77, 8),
-    "A1": found(-1999, 8),
-    "A2": found(9999, 14),
-    "PB": found(1000, 7),
-    "PR": found(1500, 7),
-    "F1": found(7, 7),
-    "TM": found(999, 10),
+    "S1": found(77, 9),
+    "A1": found(-1999, 9),
+    "A2": found(9999, 16),
+    "PB": found(1000, 8),
+    "PR": found(1500, 8),
+    "F1": found(7, 8),
+    "TM": found(999, 12),
+    "XU": found(3, 8),
 }
 
 

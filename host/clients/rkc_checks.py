@@ -56,18 +56,23 @@ def polling_on(checks, host):
     checks.same("STX while waiting", host.hear(1), ENDED)
 
 
+def ends(checks, host, row, xu=1):
+    """A writable item at both ends of its range, and refused outside."""
+    for value in (row.low, row.high):
+        text = panel.text_of(row, value, xu)
+        got = (host.select(row.name, text), host.poll(row.name))
+        checks.same(f"{row.name} takes {text}", got, (ACKNOWLEDGED, (row.name, text)))
+    for value in panel.outside(row):
+        text = panel.text_of(row, value, xu)
+        checks.same(f"{row.name} refuses {text}", host.select(row.name, text), REFUSED)
+    kept = (row.name, panel.text_of(row, row.high, xu))
+    checks.same(f"{row.name} still has {row.high}", host.poll(row.name), kept)
+
+
 def selecting(checks, host):
-    """Each writable item at both ends of its range, and refused outside."""
+    """Every writable item, XU as the last, so that the others are set at its start value."""
     for row in panel.WRITABLE:
-        for value in (row.low, row.high):
-            text = panel.text_of(row, value)
-            got = (host.select(row.name, text), host.poll(row.name))
-            checks.same(f"{row.name} takes {text}", got, (ACKNOWLEDGED, (row.name, text)))
-        for value in panel.outside(row):
-            text = panel.text_of(row, value)
-            checks.same(f"{row.name} refuses {text}", host.select(row.name, text), REFUSED)
-        kept = (row.name, panel.text_of(row, row.high))
-        checks.same(f"{row.name} still has {row.high}", host.poll(row.name), kept)
+        ends(checks, host, row)
 
 
 def number_text(checks, host):

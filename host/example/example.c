@@ -1,11 +1,13 @@
 /* A panel on three lines, as firmware would run it: what it keeps, and what it does at the start,
  * for each measured value, for each byte of the RKC line, while that line is silent, for each frame
- * of the Modbus RTU line, for each byte of the Modbus ASCII line, and for its two lamps.
+ * of the Modbus RTU line, for each byte of the Modbus ASCII line, for its two lamps and for its
+ * display.
  *
  * main() plays the outside world: a host sets the offset and asks for it, then falls silent; it
  * tries again to set it, and a byte is damaged on the way; another host tries the RTU line; a third
- * one asks for the offset on the ASCII line, twice, since a byte of the first line is damaged. In
- * the end alarm 1 is set to the measured value, which then rises to alarm 2 and falls below both.
+ * one asks for the offset on the ASCII line, twice, since a byte of the first line is damaged. Then
+ * alarm 1 is set to the measured value, which rises to alarm 2 and falls below both. In the end the
+ * first host asks for the measured value, has the point left out, and asks again.
  * In firmware its calls come from the serial drivers, the clock and the measuring. */
 #include "vennebruis.h"
 
@@ -46,7 +48,7 @@ static void start(void) {
     act_on("start", vb_start_link(link_state, sizeof link_state));
 }
 
-/* A new measured value, with its point left out: 12.5 is 125. */
+/* A new measured value, with its point left out: 12.5 is 125, as long as XU is 1. */
 static void measured(int32_t value) {
     act_on("put", vb_put(table, VB_TABLE_ENTRIES, VB_M1, value));
 }
@@ -55,6 +57,14 @@ static void measured(int32_t value) {
  * are shown as text. */
 static void show_lamps(void) {
     printf("lamps AA %d, AB %d\n", (int)table[VB_AA - 1], (int)table[VB_AB - 1]);
+}
+
+/* The display. It has the measured value as the RKC line sends it, with the decimals of XU. */
+static void show_measured(void) {
+    uint8_t text[VB_TEXT_BYTES];
+    uint8_t decimals = (uint8_t)table[VB_XU - 1];
+    act_on("display", vb_write_text(decimals, table[VB_M1 - 1], text, sizeof text));
+    printf("display %.*s\n", VB_TEXT_BYTES, (const char *)text);
 }
 
 /* A byte has come on the RKC line. */
@@ -108,6 +118,19 @@ static void text_received(const char *text) {
         ascii_received((uint8_t)*text);
 }
 
+/* Measured value and display before and after: the same number, with and without its point. */
+static void leave_point_out(uint32_t now) {
+    /* EOT, address 01, a poll of M1; the same address, a block that sets XU to "0" with its BCC. */
+    static const uint8_t poll[] = {0x04, '0', '1', 'M', '1', 0x05};
+    static const uint8_t no_decimals[] = {0x04, '0', '1', 0x02, 'X', 'U', '0', 0x03, 0x3E};
+
+    show_measured();
+    all_received(poll, sizeof poll, now);
+    all_received(no_decimals, sizeof no_decimals, now);
+    all_received(poll, sizeof poll, now);
+    show_measured();
+}
+
 int main(void) {
     /* EOT, address 01, a block that sets PB to "-8" with its BCC; EOT, address 01, a poll of PB. */
     static const uint8_t heard[] = {0x04, '0',  '1',  0x02, 'P', 'B', '-', '8',
@@ -142,5 +165,6 @@ int main(void) {
     show_lamps();
     measured(124);
     show_lamps();
+    leave_point_out(6000);
     return 0;
 }

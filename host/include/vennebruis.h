@@ -35,6 +35,20 @@
  *   not be true any more, and each call that looks at the table would refuse it (2). So a saved
  *   table is restored with these two entries as well.
  *
+ * The decimal point
+ *   Entry 13, XU, is how many decimals M1, S1, A1 and A2 have on the RKC line, in what is sent and
+ *   in what is taken: 0 to 3, and 1 at the start. A host may set it on any line, and firmware by
+ *   vb_put. Stored numbers and ranges do not move when it changes, only the point does: M1 stored
+ *   as 1005 is sent as "001005", "0100.5", "010.05" or "01.005". All else deals in stored numbers,
+ *   the lamps, vb_put and both Modbus lines, and takes no notice of XU.
+ *
+ *   A display that is to show what the RKC line sends writes these four items by vb_write_text,
+ *   with table[VB_XU - 1] as the decimals: each of their values fits at each XU.
+ *
+ *   A table that was saved when there was no XU has twelve entries, and is refused for that (1).
+ *   Firmware that takes one over restores the twelve, and sets entry 13 to 1: the point is then
+ *   where it was.
+ *
  * The way out of 2 and of 5
  *   Once an entry of the table lies outside its range, or AA or AB is not true, every call that
  *   looks at the table gives 2, and a put does not mend it. The table is firmware's own memory: it
@@ -77,7 +91,7 @@ extern "C" {
 
 /* Lengths: of the table in entries, of the link state and the least reply buffer in bytes, and of
  * number text in characters. */
-#define VB_TABLE_ENTRIES 12
+#define VB_TABLE_ENTRIES 13
 #define VB_STATE_BYTES 24
 #define VB_REPLY_BYTES 256
 #define VB_TEXT_BYTES 6
@@ -104,7 +118,7 @@ enum vb_number {
     VB_SHORT_BUFFER = 3,      /* reply buffer under VB_REPLY_BYTES, or text under VB_TEXT_BYTES */
     VB_BAD_SETTING = 4,       /* address over 99, or 0 for Modbus and captures; structure over 2 */
     VB_BAD_STATE = 5,         /* the link state is outside its limits, or not VB_STATE_BYTES long */
-    VB_NO_SUCH_ITEM = 6,      /* put, last write: the item number is not 1 to 12 */
+    VB_NO_SUCH_ITEM = 6,      /* put, last write: the item number is not 1 to 13 */
     VB_VALUE_OUTSIDE = 7,     /* put: the item is AA or AB, or the value lies outside its range */
     VB_DOES_NOT_FIT = 8,      /* writing text: the value does not fit six characters */
     VB_TOO_MANY_DECIMALS = 9, /* number text: more than three decimals */
@@ -146,23 +160,24 @@ enum vb_number {
     VB_NO_SUCH_FRAME = 52 /* show: the capture has no frame of this number */
 };
 
-/* The items. Entry n - 1 of the table holds item n as a whole number with the point left out: M1
- * at 12.5 is 125. Behind each: register, what the host may do, decimals on the RKC line, range,
- * start value. "Write" items may be read too. AA and AB follow M1, A1 and A2, as stands at the top;
- * neither the host nor a put sets them. */
+/* The items. Entry n - 1 of the table holds item n as a whole number with the point left out: PB at
+ * -1.5 is -150. Behind each: register, what the host may do, decimals on the RKC line, range, start
+ * value. "Write" items may be read too. Four items have as many decimals as XU says. AA and AB
+ * follow M1, A1 and A2; neither the host nor a put sets them. Both stand at the top. */
 enum vb_item {
-    VB_M1 = 1,  /* measured value: 0000H, read, 1, -1999 to 9999, 0 */
+    VB_M1 = 1,  /* measured value: 0000H, read, XU, -1999 to 9999, 0 */
     VB_AA = 2,  /* alarm 1 state: 0001H, read, 0, 0 to 1, 0 */
     VB_AB = 3,  /* alarm 2 state: 0002H, read, 0, 0 to 1, 0 */
     VB_B1 = 4,  /* burnout: 0003H, read, 0, 0 to 1, 0 */
     VB_ER = 5,  /* error code: 0004H, read, 0, 0 to 255, 0 */
-    VB_S1 = 6,  /* set value: 000BH, write, 1, -1999 to 9999, 0 */
-    VB_A1 = 7,  /* alarm 1: 000CH, write, 1, -1999 to 9999, 500 */
-    VB_A2 = 8,  /* alarm 2: 000EH, write, 1, -1999 to 9999, 500 */
+    VB_S1 = 6,  /* set value: 000BH, write, XU, -1999 to 9999, 0 */
+    VB_A1 = 7,  /* alarm 1: 000CH, write, XU, -1999 to 9999, 500 */
+    VB_A2 = 8,  /* alarm 2: 000EH, write, XU, -1999 to 9999, 500 */
     VB_PB = 9,  /* offset: 0010H, write, 2, -1000 to 1000, 0 */
     VB_PR = 10, /* ratio: 0011H, write, 3, 500 to 1500, 1000 */
     VB_F1 = 11, /* filter: 0012H, write, 0, 0 to 100, 0 */
-    VB_TM = 12  /* test number: 0008H, write, 0, 0 to 999, 0 */
+    VB_TM = 12, /* test number: 0008H, write, 0, 0 to 999, 0 */
+    VB_XU = 13  /* decimals of M1, S1, A1 and A2: 0013H, write, 0, 0 to 3, 1 */
 };
 
 /* How a character stands in the eight bits of a byte on the RKC line.
@@ -195,7 +210,7 @@ enum vb_structure {
 /* The link state. Firmware keeps its 24 bytes between calls and need not look into them:
  *
  *   byte 0         phase, see below
- *   byte 1         item last sent, 1 to 12: waiting
+ *   byte 1         item last sent, 1 to 13: waiting
  *   byte 2         characters of the block, up to 9: text, BCC due
  *   byte 3         exclusive or of the block so far, below 80H: text, BCC due
  *   byte 4         not 0 where the block has met a line error: text, BCC due
@@ -333,7 +348,7 @@ uint32_t vb_ascii(int32_t *table, uint64_t tn, uint8_t *reply, uint64_t rn, uint
 /* Sets an item from the firmware: a measured value, an error code, a setting made at the panel.
  * Every item but AA and AB may be set, within its range.
  *
- * item        enum vb_item, 1 to 12
+ * item        enum vb_item, 1 to 13
  * value       the number with its point left out
  *
  * Gives 0, 1, 2, 6 or 7; for AA and AB it is 7 whatever the value. With 0 the item's entry is the
@@ -392,7 +407,7 @@ uint32_t vb_show(const uint8_t *capture, uint64_t cn, uint32_t frame, uint32_t *
  *
  * capture, cn what was recorded, as for vb_playback
  * address     of the panel that was written to, 1 to 99
- * item        enum vb_item, 1 to 12. One that a host may only read is never written
+ * item        enum vb_item, 1 to 13. One that a host may only read is never written
  * value       set to what was written, the number with its point left out, or 0
  * records     set to how many records were read, the one that answers included, or 0
  *

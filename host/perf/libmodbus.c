@@ -53,8 +53,9 @@ __attribute__((noinline)) int libmodbus_check(void *context, uint8_t *frame, int
     return check_integrity(context, frame, n);
 }
 
-/* The values of the 19 registers that the item list gives once M1 is 123.4. */
-static uint16_t registers[] = {1234, 1, 1, 0, 0, 0, 0, 0, 0, 0, 0, 0, 500, 0, 500, 0, 0, 1000, 0};
+/* The values of the 20 registers that the item list gives once M1 is 123.4. */
+static uint16_t registers[] = {1234, 1, 1,   0, 0,   0, 0, 0,    0, 0,
+                               0,    0, 500, 0, 500, 0, 0, 1000, 0, 1};
 
 static void serve(struct request *request) {
     struct context *(*new_rtu)(const char *, int, char, int, int);

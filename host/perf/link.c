@@ -1,8 +1,9 @@
 /* Makes the calls of one case through the C functions of the link, for their instructions to be
- * counted: link CASE, and behind it ascii for a request that is to go as a line, or the capture for
- * the case playback, show or last-write. Whatever has these functions can be linked to it.
+ * counted: link CASE, and behind it ascii for a request that is to go as a line, XU for a poll
+ * where it is not to be at its start, or the capture for the case playback, show or last-write.
+ * Whatever has these functions can be linked to it.
  *
- * M1 is 123.4 before, put there by the link. A name that is no case makes no other call.
+ * M1 is 1234 before, put there by the link. A name that is no case makes no other call.
  *
  * It prints where the counted functions stand, for each call that gave something the number and the
  * reply, the table, the place and length or the last write, how many bytes it handed over, and how
@@ -88,17 +89,28 @@ static void bytes(const char *received) {
         byte((uint8_t)received[i]);
 }
 
-/* All items are asked for: the first one by its identifier, each next one by ACK, until EOT comes
- * back. */
-static void poll(void) {
-    bytes("\x04"
-          "01M1\x05");
-    bytes("\x06\x06\x06\x06\x06\x06\x06\x06\x06\x06\x06\x06");
-}
-
 static void call_address(void) {
     bytes("\x04"
           "01");
+}
+
+/* M1 alone is asked for. What the second case takes more than the first is ENQ, at which the item
+ * is sent. */
+static void begin_poll(void) {
+    call_address();
+    bytes("M1");
+}
+
+static void poll_measured(void) {
+    begin_poll();
+    bytes("\x05");
+}
+
+/* All items are asked for: the first one by its identifier, each next one by ACK, until EOT comes
+ * back. */
+static void poll(void) {
+    poll_measured();
+    bytes("\x06\x06\x06\x06\x06\x06\x06\x06\x06\x06\x06\x06\x06");
 }
 
 /* A block without its BCC. */
@@ -118,7 +130,7 @@ static void end_block(const char *text) {
 /* Every item that can be written is written, block by block. */
 static void select_items(void) {
     static const char *const texts[] = {"S10123.4", "A1-199.9", "A20999.9", "PB-01.50",
-                                        "PR01.250", "F1000010", "TM000123"};
+                                        "PR01.250", "F1000010", "TM000123", "XU000002"};
     call_address();
     for (size_t i = 0; i < sizeof texts / sizeof texts[0]; i++) {
         open_block(texts[i]);
@@ -130,18 +142,24 @@ static void select_items(void) {
  * which the value is stored. */
 static const char alarm_text[] = "A10123.5";
 
-static void alarm_without_bcc(void) {
+static void begin_alarm(void) {
     call_address();
     open_block(alarm_text);
 }
 
 static void alarm_block(void) {
-    alarm_without_bcc();
+    begin_alarm();
     end_block(alarm_text);
 }
 
 static void put(uint32_t item, int32_t value) {
     show_table(vb_put(table, VB_TABLE_ENTRIES, item, value));
+}
+
+/* XU as the word behind the case says, if it is one of its values. */
+static void put_point(const char *word) {
+    if (word[0] >= '0' && word[0] <= '3')
+        vb_put(table, VB_TABLE_ENTRIES, VB_XU, word[0] - '0');
 }
 
 /* Below A1 and A2, which M1 has reached before. */
@@ -198,11 +216,12 @@ static const struct {
     const char *name;
     void (*calls)(void);
 } cases[] = {
-    {"known", ten_rounds_twice},  {"poll", poll},
-    {"select", select_items},     {"alarm-without-bcc", alarm_without_bcc},
-    {"alarm-block", alarm_block}, {"put-measured", put_measured},
-    {"put-code", put_code},       {"put-nothing", put_nothing},
-    {"playback", playback},       {"show", show_first},
+    {"known", ten_rounds_twice},    {"poll", poll},
+    {"measured-begun", begin_poll}, {"measured", poll_measured},
+    {"select", select_items},       {"alarm-block-begun", begin_alarm},
+    {"alarm-block", alarm_block},   {"put-measured", put_measured},
+    {"put-code", put_code},         {"put-nothing", put_nothing},
+    {"playback", playback},         {"show", show_first},
     {"last-write", last_write},
 };
 
@@ -218,6 +237,7 @@ int main(int argc, char **argv) {
     vb_start_table(table, VB_TABLE_ENTRIES);
     vb_start_link(link_state, sizeof link_state);
     vb_put(table, VB_TABLE_ENTRIES, VB_M1, 1234);
+    put_point(behind);
     make_capture(behind);
 
     const struct request *request = request_of(name);

@@ -19,18 +19,20 @@ MORE_BYTES = 256 - 8
 CRC_BYTES = 2
 
 ROWS = {
-    "read": "read of 19 registers (03H)",
+    "read": "read of all 20 registers (03H)",
     "read, CRC apart": "the same, both CRCs apart",
     "write": "write of one register (06H)",
     "write, CRC apart": "the same, both CRCs apart",
     "write-three": "write of three registers (10H)",
     "write-three, CRC apart": "the same, both CRCs apart",
+    "write-four": "write of four registers (10H)",
+    "write-four, CRC apart": "the same, both CRCs apart",
     "write-alarm": "write of A1 (06H), which alters AA",
     "write-alarm-10H": "the same by 10H",
     "loopback": "loopback (08H)",
     "loopback, CRC apart": "the same, both CRCs apart",
     "CRC": "CRC, per byte",
-    "read, ASCII": "read of 19 registers (03H), as a line of ASCII",
+    "read, ASCII": "read of all 20 registers (03H), as a line of ASCII",
     "write, ASCII": "write of one register (06H), as a line",
     "write-three, ASCII": "write of three registers (10H), as a line",
     "loopback, ASCII": "loopback (08H), as a line",
@@ -38,6 +40,10 @@ ROWS = {
     "select": "RKC: all settings written, per byte",
     "session": "RKC: one after the other, per byte",
     "alarm-block": "RKC: the BCC of a block that sets A1, which alters AA",
+    "measured, XU 0": "RKC: the ENQ of a poll of M1, XU at 0",
+    "measured, XU 1": "the same, XU at 1",
+    "measured, XU 2": "the same, XU at 2",
+    "measured, XU 3": "the same, XU at 3",
     "put-measured": "put of M1, which alters AA and AB",
     "put-code": "put of ER",
     "put-nothing": "put of no item (6), which is the table check",
@@ -54,6 +60,16 @@ ROWS = {
     "stack": "stack of the deepest call, bytes",
 }
 
+# The blocks and polls of which the byte that ends them is counted: the case, and what stands behind
+# it.
+LAST_BYTES = {
+    "alarm-block": ["alarm-block"],
+    "measured, XU 0": ["measured", "0"],
+    "measured, XU 1": ["measured", "1"],
+    "measured, XU 2": ["measured", "2"],
+    "measured, XU 3": ["measured", "3"],
+}
+
 # The captures in which the last write to PB is looked for: their bytes, and the records that are
 # read.
 LAST_WRITES = {
@@ -67,8 +83,11 @@ LAST_WRITES = {
 # capture for each of them would take four times as much.
 MOST_GROWTH = 2.5
 
+# A byte of the RKC line takes fewer instructions than this, over all bytes of the sessions.
+RKC_BOUND = 200
+
 # The requests that libmodbus knows, too, all of them, and those that go as lines of ASCII as well.
-SHARED = ["read", "write", "write-three", "write-alarm", "write-alarm-10H"]
+SHARED = ["read", "write", "write-three", "write-four", "write-alarm", "write-alarm-10H"]
 REQUESTS = [*SHARED, "loopback"]
 LINES = ["read", "write", "write-three", "loopback"]
 
@@ -119,11 +138,16 @@ def rkc(program):
     return figures, gave
 
 
-def alarm_block(program):
-    """The instructions of the byte that ends a block, and what came back."""
-    before = count([*program, "alarm-without-bcc"], ["vb_byte"])[0]
-    whole, printed = count([*program, "alarm-block"], ["vb_byte"])
-    return {"alarm-block": whole - before}, {"alarm-block": replies(printed)}
+def last_bytes(program):
+    """The instructions of the byte that ends a block or a poll, and what came back. The bytes in
+    front of it are taken off."""
+    figures, gave = {}, {}
+    for row, (case, *behind) in LAST_BYTES.items():
+        before = count([*program, f"{case}-begun", *behind], ["vb_byte"])[0]
+        whole, printed = count([*program, case, *behind], ["vb_byte"])
+        figures[row] = whole - before
+        gave[row] = replies(printed)
+    return figures, gave
 
 
 def puts(program):
@@ -166,7 +190,7 @@ def last_writes(program):
 def link(program, file):
     """All figures of an implementation with the C functions of the link."""
     figures, gave = modbus(program, ["vb_rtu"], REQUESTS)
-    for part in (lines, rkc, alarm_block, puts, captures, last_writes):
+    for part in (lines, rkc, last_bytes, puts, captures, last_writes):
         more, gave_more = part(program)
         figures, gave = figures | more, gave | gave_more
     refused = [case for case, given in gave.items() if not given[0].startswith("0:")]
@@ -211,6 +235,12 @@ def growth(library):
         raise SystemExit("perf: that grows with the capture, and not with the records read")
 
 
+def bound(library):
+    """Ends with an error where a byte of the RKC line takes too much."""
+    if library["session"] >= RKC_BOUND:
+        raise SystemExit(f"perf: a byte of the RKC line takes {RKC_BOUND} instructions or more")
+
+
 def main():
     """Measures all three and prints the table."""
     kit.refuse_what_is_missing()
@@ -233,6 +263,7 @@ def main():
     print(f"\nOf libmodbus's code, which is all of it, modbus_reply alone has {reply} bytes.")
     print(f"Stack by function: {', '.join(f'{name} {n}' for name, n in stack.items())}.")
     growth(library)
+    bound(library)
 
 
 main()

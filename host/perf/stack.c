@@ -131,7 +131,7 @@ static void rkc(void) {
           "A1-199.9\x03\x78");
     bytes("\x02XX1\x03\x32");
     bytes("\x04"
-          "01M1\x05\x06\x06\x06\x06\x06\x06\x06\x06\x06\x06\x06\x06");
+          "01M1\x05\x06\x06\x06\x06\x06\x06\x06\x06\x06\x06\x06\x06\x06");
     bytes("\x04"
           "01PB\x05\x15\x05");
     bytes("\x04"
@@ -140,6 +140,20 @@ static void rkc(void) {
           "01PB\x05");
     idle(2999);
     idle(3000);
+}
+
+/* XU at each of its values: S1 is set, and M1 polled. */
+static void points(void) {
+    static const char *const settings[] = {"\x02XU0\x03\x3E", "\x02XU1\x03\x3F", "\x02XU2\x03\x3C",
+                                           "\x02XU3\x03\x3D"};
+    for (size_t i = 0; i < sizeof settings / sizeof settings[0]; i++) {
+        bytes("\x04"
+              "01");
+        bytes(settings[i]);
+        bytes("\x02S1-1.999\x03\x6A");
+        bytes("\x04"
+              "01M1\x05");
+    }
 }
 
 static void modbus(enum name name, uint64_t address, const uint8_t *received, uint64_t n) {
@@ -216,6 +230,7 @@ int main(void) {
     call(START_TABLE, (uint64_t[WORDS]){at(table), VB_TABLE_ENTRIES});
     call(START_LINK, (uint64_t[WORDS]){at(link_state), sizeof link_state});
     rkc();
+    points();
     requested();
     put();
     text();

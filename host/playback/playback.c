@@ -39,7 +39,7 @@ static const char help[] =
     "Status 2: a bad command line.\n";
 
 static const char *const identifiers[VB_TABLE_ENTRIES] = {
-    "M1", "AA", "AB", "B1", "ER", "S1", "A1", "A2", "PB", "PR", "F1", "TM",
+    "M1", "AA", "AB", "B1", "ER", "S1", "A1", "A2", "PB", "PR", "F1", "TM", "XU",
 };
 
 /* The file, up to one byte more than the longest capture has, so that a longer one is still seen to

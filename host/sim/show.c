@@ -9,7 +9,7 @@ struct row {
 
 static const struct row meanings[] = {
     {0, "no fault"},
-    {1, "table not twelve entries long"},
+    {1, "table not thirteen entries long"},
     {2, "table entry outside its range, or an alarm state that is not true"},
     {3, "reply buffer under 256 bytes"},
     {4, "address or structure outside its limits"},
