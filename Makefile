@@ -21,11 +21,11 @@ cargo_words = --quiet --release --locked --target-dir target/cargo --manifest-pa
 reference:
 	cargo test $(cargo_words) host/reference/Cargo.toml
 
-# The worked examples of the documents as the reference prints them, line by line beside those of the four programs
+# The worked examples of the documents as the reference prints them, line by line beside those of the five programs
 # that run them through the library.
 examples:
 	@mkdir -p target
-	cat crates/vectors/stdout crates/capture_vectors/stdout crates/ascii_vectors/stdout crates/alarm_vectors/stdout >target/examples
+	cat crates/vectors/stdout crates/capture_vectors/stdout crates/ascii_vectors/stdout crates/alarm_vectors/stdout crates/point_vectors/stdout >target/examples
 	cargo run $(cargo_words) host/reference/Cargo.toml | diff target/examples -
 
 # The programs that make calls of the library and compare what they give.

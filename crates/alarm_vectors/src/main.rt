@@ -148,14 +148,14 @@ fn alarm_values() {
     put(500, 500, 500, A1, 10000);
 }
 
-// The alarm states themselves cannot be put, whatever the value; and there is no item 0 or 13.
+// The alarm states themselves cannot be put, whatever the value; and there is no item 0 or 14.
 fn states_and_no_items() {
     put(0, 500, 500, AA, 0);
     put(0, 500, 500, AA, 1);
     put(500, 500, 501, AB, 0);
     put(500, 500, 501, AB, 1);
     put(0, 500, 500, 0, 0);
-    put(0, 500, 500, 13, 0);
+    put(0, 500, 500, 14, 0);
 }
 
 // On the RKC line, with blocks to the states themselves at the end.
