@@ -11,7 +11,6 @@ use Rattle.items.specs.ItemList.{items, itemAt, identifierOf, decimalsOf}
 use Rattle.table.specs.Table.{entry, M1, XU, goodTable, SameButXU}
 use Rattle.line.specs.Line.{ACK, isLineError}
 use Rattle.text.specs.Numbers.{width, mostDecimals}
-use Rattle.text.specs.Reading.{readNumber, readValue}
 use Rattle.text.specs.Writing.{text}
 use Rattle.text.specs.Demands.{withoutPoint, RoundTrip}
 use Rattle.phases.specs.Phases.{bccDue, answered}

@@ -9,14 +9,13 @@ use native.Mathlib.Omega.{arith}
 use borrow.Author.Tests.{eqb-true, ltb-true, ltb-false}
 use lib.Dec.{eqb, ltb}
 use lib.IntN.{ℤ}
-use lib.ListN.{length}
 use Rattle.numbers.specs.Numbers.{none, unless, unlessMet}
 use Rattle.items.specs.ItemList.{Item, items, itemAt, foundByRegister, placeOf}
 use Rattle.items.specs.declared.Found.{Found}
 use Rattle.items.specs.declared.Found.the-variants.{At, Nothing}
 use Rattle.items.proofs.Lists.{line-past}
 use Rattle.items.proofs.Lookup.{found-register, own-place}
-use Rattle.table.specs.Table.{XU, goodTable, answered, SameButXU}
+use Rattle.table.specs.Table.{XU, answered, SameButXU}
 use Rattle.table.proofs.Laws.{good-but-xu}
 use Rattle.registers.specs.Register.{toRegister, highFirst, readAs, registerAt, registersFrom}
 use Rattle.registers.specs.Faults.{firstWord, secondWord, readFault, loopbackFault}
@@ -26,7 +25,6 @@ use Rattle.modbus.specs.Outcome.{Outcome, otherAddress, silent, addressOf, func
 use Rattle.modbus.specs.Rules.{readRegisters, writeRegister, loopback, writeSeveral, readReply}
 use Rattle.modbus.specs.Rules.{reading, writing, loopingBack, writingSeveral, obeying, ours, acted}
 use Rattle.modbus.proofs.Laws.{good-stays}
-use Rattle.settings.specs.Settings.{writesOf}
 use Rattle.settings.specs.Point.{xuRegister, SameAnswer, OfXU}
 use Rattle.settings.proofs.Settings.{writing-claimed}
 

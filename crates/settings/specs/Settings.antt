@@ -61,8 +61,8 @@ pub record OfWriting (table : List ℤ) (address : ℕ) (body : List ℕ) : Type
       → entry (acted table address body .table) i ≡ entry table i
   -- those are true after it, in a table that is good before it
   pub alarmsStayTrue : goodTable table ≡ true → AlarmsTrue (acted table address body .table)
-  -- after a write that is given no number, of bytes and in a table of the right length, a read of the same registers answers the data that was
-  -- sent
+  -- after a write that is given no number, of bytes and in a table of the right length, a read of the same registers answers the data
+  -- that was sent
   pub readsBack : acted table address body .number ≡ none → ToWrite body → ((i : ℕ) → getD body i 0 < 256) → length table ≡ items
       → acted (acted table address body .table) address (readingBack body)
       ≡ done (addressOf body ∷ readRegisters ∷ length (dataOf body) ∷ dataOf body) (acted table address body .table)

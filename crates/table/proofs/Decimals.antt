@@ -1,6 +1,6 @@
 -- Laws of XU: how many decimals it gives.
 -- Assumes nothing.
-use mathlib.Core.Path.{_≡_, refl, sym}
+use mathlib.Core.Path.{_≡_, sym}
 use mathlib.Core.Bool.{true}
 use mathlib.Core.List.{List}
 use Prim.Native.Nat.{ℕ, _≤_}
@@ -11,7 +11,7 @@ use lib.IntN.{ℤ, pos, negsuc, natAbs}
 use lib.Signed.{nonNeg}
 use Rattle.numbers.proofs.Tests.{contrary, both, chosen}
 use Rattle.items.specs.ItemList.{inRange}
-use Rattle.table.specs.Table.{entry, XU, goodTable, xuOf}
+use Rattle.table.specs.Table.{entry, XU, xuOf}
 
 -- a value in its range is that of 0 to 3
 pub in-xu : (v : ℤ) → inRange XU v ≡ true → T (nonNeg v) × (natAbs v ≤ 3)

@@ -3,7 +3,7 @@
 use mathlib.Core.Path.{_≡_, refl, sym, ap, _∙_}
 use mathlib.Core.Bool.{Bool, true, false, cond}
 use mathlib.Core.List.{List, [], _∷_, _++_}
-use Prim.Native.Nat.{ℕ, zero, suc, _-_, _≤_}
+use Prim.Native.Nat.{ℕ, zero, suc, _-_}
 use native.Mathlib.Omega.{arith}
 use borrow.Author.Tests.{ne-eqb}
 use lib.Dec.{eqb}
@@ -13,7 +13,7 @@ use lib.Signed.{ltZ}
 use Rattle.numbers.proofs.Tests.{both}
 use Rattle.text.specs.Characters.{point, isDigit}
 use Rattle.text.specs.Reading.{allDigits}
-use Rattle.text.specs.Writing.{digits, pointed, signText, room, textOf, text}
+use Rattle.text.specs.Writing.{digits, pointed, signText, room, text}
 use Rattle.text.specs.Demands.{withoutPoint, PointAlone}
 use Rattle.text.proofs.Numerals.{digits-all, parts-digits}
 use Rattle.text.proofs.RoundTrip.{no-point}
