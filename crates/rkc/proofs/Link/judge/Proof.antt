@@ -1,6 +1,7 @@
 -- `Link::judge` meets its contract: ACK with the item stored, or NAK. Assumes nothing.
 use borrow.Author.Needs.{needs}
-use mathlib.Core.Path.{refl, ap, _∙_}
+use mathlib.Core.Path.{refl, ap, subst, _∙_}
+use Prim.Native.Nat.{ℕ}
 use Rattle.sign.proofs.Laws.{same}
 use Rattle.table.specs.Table.{xuOf, stored}
 use Rattle.block.specs.Block.{Judges}
@@ -45,7 +46,10 @@ same-length-2 c = search needs
 verdict : (c : tie.After-judge) →
     let s = c .before .before .before .before .before .args in
     Judges (xuOf (s .table .now)) (s .self .mark) (s .self .bcc) (s .self .count) (s .self .kept) (s .c) (c .judge .result)
-verdict c = rw (c .before .xu .ensures) at (c .judge .ensures)
+verdict c =
+    let s = c .before .before .before .before .before .args in
+    subst (λ (x : ℕ). Judges x (s .self .mark) (s .self .bcc) (s .self .count) (s .self .kept) (s .c) (c .judge .result))
+    (c .before .xu .ensures) (c .judge .ensures)
 
 returns : tie.Need-returns
 returns c =
