@@ -17,7 +17,7 @@ fn with([m1, a1, a2]: Levels) -> Instrument {
 
 /// Prints a line: what was done to an instrument with these, the number that it gave, and entries 2
 /// and 3 behind it.
-fn line(form: &str, [m1, a1, a2]: Levels, done: &str, number: u32, table: &[i32; 12]) {
+fn line(form: &str, [m1, a1, a2]: Levels, done: &str, number: u32, table: &[i32; 13]) {
     let [_, aa, ab, ..] = table;
     println!(
         "{} {} {} {}: {} -> {}: {} {}",
@@ -76,7 +76,7 @@ fn puts() {
     put([500, 500, 501], 3, 0);
     put([500, 500, 501], 3, 1);
     put([0, 500, 500], 0, 0);
-    put([0, 500, 500], 13, 0);
+    put([0, 500, 500], 14, 0);
 }
 
 /// Blocks for the levels, and for AA and AB.

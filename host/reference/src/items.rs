@@ -1,23 +1,33 @@
 //! The item list, the check of the lent table, and what storing a value leaves in it.
 
+/// Where the point of an item's number text stands.
+pub enum Point {
+    /// Always before so many decimals.
+    Fixed(u8),
+    /// Where XU has it.
+    Chosen,
+}
+
+use Point::{Chosen, Fixed};
+
 /// One row of the specification's item list.
 pub struct Item {
     pub id: [u8; 2],
     pub register: u16,
     pub writable: bool,
-    pub decimals: u8,
+    pub point: Point,
     pub low: i32,
     pub high: i32,
     pub start: i32,
 }
 
 /// A row that the host may only read.
-const fn read(id: &[u8; 2], register: u16, decimals: u8, limits: (i32, i32), start: i32) -> Item {
+const fn read(id: &[u8; 2], register: u16, point: Point, limits: (i32, i32), start: i32) -> Item {
     Item {
         id: *id,
         register,
         writable: false,
-        decimals,
+        point,
         low: limits.0,
         high: limits.1,
         start,
@@ -25,12 +35,12 @@ const fn read(id: &[u8; 2], register: u16, decimals: u8, limits: (i32, i32), sta
 }
 
 /// A row that the host may write. "Write" items may also be read.
-const fn write(id: &[u8; 2], register: u16, decimals: u8, limits: (i32, i32), start: i32) -> Item {
+const fn write(id: &[u8; 2], register: u16, point: Point, limits: (i32, i32), start: i32) -> Item {
     Item {
         id: *id,
         register,
         writable: true,
-        decimals,
+        point,
         low: limits.0,
         high: limits.1,
         start,
@@ -38,19 +48,20 @@ const fn write(id: &[u8; 2], register: u16, decimals: u8, limits: (i32, i32), st
 }
 
 /// The item list, in its order: the lent table has one entry per item in the same order.
-pub const ITEMS: [Item; 12] = [
-    read(b"M1", 0x0000, 1, (-1999, 9999), 0),
-    read(b"AA", 0x0001, 0, (0, 1), 0),
-    read(b"AB", 0x0002, 0, (0, 1), 0),
-    read(b"B1", 0x0003, 0, (0, 1), 0),
-    read(b"ER", 0x0004, 0, (0, 255), 0),
-    write(b"S1", 0x000B, 1, (-1999, 9999), 0),
-    write(b"A1", 0x000C, 1, (-1999, 9999), 500),
-    write(b"A2", 0x000E, 1, (-1999, 9999), 500),
-    write(b"PB", 0x0010, 2, (-1000, 1000), 0),
-    write(b"PR", 0x0011, 3, (500, 1500), 1000),
-    write(b"F1", 0x0012, 0, (0, 100), 0),
-    write(b"TM", 0x0008, 0, (0, 999), 0),
+pub const ITEMS: [Item; 13] = [
+    read(b"M1", 0x0000, Chosen, (-1999, 9999), 0),
+    read(b"AA", 0x0001, Fixed(0), (0, 1), 0),
+    read(b"AB", 0x0002, Fixed(0), (0, 1), 0),
+    read(b"B1", 0x0003, Fixed(0), (0, 1), 0),
+    read(b"ER", 0x0004, Fixed(0), (0, 255), 0),
+    write(b"S1", 0x000B, Chosen, (-1999, 9999), 0),
+    write(b"A1", 0x000C, Chosen, (-1999, 9999), 500),
+    write(b"A2", 0x000E, Chosen, (-1999, 9999), 500),
+    write(b"PB", 0x0010, Fixed(2), (-1000, 1000), 0),
+    write(b"PR", 0x0011, Fixed(3), (500, 1500), 1000),
+    write(b"F1", 0x0012, Fixed(0), (0, 100), 0),
+    write(b"TM", 0x0008, Fixed(0), (0, 999), 0),
+    write(b"XU", 0x0013, Fixed(0), (0, 3), 1),
 ];
 
 /// The row of an item number, which counts from 1.
@@ -65,12 +76,22 @@ pub fn in_range(number: usize, value: i32) -> bool {
 
 /// The number of the item with this identifier.
 pub fn with_id(id: &[u8]) -> Option<usize> {
-    (1..=12).find(|number| item(*number).id == id)
+    (1..=13).find(|number| item(*number).id == id)
 }
 
 /// The number of the item with this register.
 pub fn with_register(register: u16) -> Option<usize> {
-    (1..=12).find(|number| item(*number).register == register)
+    (1..=13).find(|number| item(*number).register == register)
+}
+
+/// The decimals of an item's number text, in polls and in blocks alike. XU, item 13, gives those of M1,
+/// S1, A1 and A2. It does nothing else: stored numbers and ranges don't move with it, only the point
+/// does.
+pub fn decimals(table: &[i32], number: usize) -> u8 {
+    match item(number).point {
+        Fixed(decimals) => decimals,
+        Chosen => table[12] as u8,
+    }
 }
 
 /// The alarm states, which stand in entries 2 and 3: AA is 1 exactly when M1 has reached A1, AB
@@ -82,13 +103,13 @@ pub fn alarm_states(table: &[i32]) -> [i32; 2] {
     [i32::from(m1 >= a1), i32::from(m1 >= a2)]
 }
 
-/// The first two numbers given back: 1 where the table is not 12 long, 2 where an entry lies
+/// The first two numbers given back: 1 where the table is not 13 long, 2 where an entry lies
 /// outside its low and high or where entry 2 or 3 disagrees with M1 and A1 or A2, else 0.
 pub fn table_fault(table: &[i32]) -> u32 {
-    if table.len() != 12 {
+    if table.len() != 13 {
         return 1;
     }
-    for number in 1..=12 {
+    for number in 1..=13 {
         if !in_range(number, table[number - 1]) {
             return 2;
         }
@@ -117,15 +138,29 @@ mod tests {
     fn entries_are_found_by_identifier_and_register() {
         assert_eq!(with_id(b"M1"), Some(1));
         assert_eq!(with_id(b"TM"), Some(12));
+        assert_eq!(with_id(b"XU"), Some(13));
         assert_eq!(with_id(b"m1"), None);
         assert_eq!(with_register(0x0008), Some(12));
         assert_eq!(with_register(0x0012), Some(11));
+        assert_eq!(with_register(0x0013), Some(13));
+        assert_eq!(with_register(0x0014), None);
         assert_eq!(with_register(0x0005), None);
     }
 
     #[test]
+    fn xu_gives_the_decimals_of_four_items() {
+        let mut table = [0; 13];
+        for xu in 0..=3 {
+            table[12] = xu;
+            let all: Vec<u8> = (1..=13).map(|number| decimals(&table, number)).collect();
+            let xu = xu as u8;
+            assert_eq!(all, [xu, 0, 0, 0, 0, xu, xu, xu, 2, 3, 0, 0, 0]);
+        }
+    }
+
+    #[test]
     fn an_alarm_state_is_1_from_its_level_up() {
-        let mut table = [0, 0, 0, 0, 0, 0, 500, 501, 0, 1000, 0, 0];
+        let mut table = [0, 0, 0, 0, 0, 0, 500, 501, 0, 1000, 0, 0, 1];
         for (m1, states) in [(499, [0, 0]), (500, [1, 0]), (501, [1, 1])] {
             table[0] = m1;
             assert_eq!(alarm_states(&table), states);
@@ -140,7 +175,7 @@ mod tests {
 
     #[test]
     fn storing_sets_both_alarm_states_anew() {
-        let mut table = [0, 0, 0, 0, 0, 0, 500, 501, 0, 1000, 0, 0];
+        let mut table = [0, 0, 0, 0, 0, 0, 500, 501, 0, 1000, 0, 0, 1];
         store(&mut table, 1, 501);
         assert_eq!(table[..3], [501, 1, 1]);
         store(&mut table, 7, 502);

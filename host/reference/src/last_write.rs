@@ -68,7 +68,7 @@ fn written(frame: &[u8], address: u8, item: usize) -> Option<i32> {
     if !items::item(item).writable {
         return None;
     }
-    let mut table = [UNWRITTEN; 12];
+    let mut table = [UNWRITTEN; 13];
     modbus::answer(&mut table, address, frame);
     let entry = table[item - 1];
     if entry == UNWRITTEN {
@@ -85,7 +85,7 @@ mod tests {
 
     #[test]
     fn no_item_can_have_what_was_not_written() {
-        for item in 1..=12 {
+        for item in 1..=13 {
             assert!(!items::in_range(item, UNWRITTEN));
         }
     }
@@ -105,7 +105,7 @@ mod tests {
         for level in [7, 8] {
             let register = items::item(level).register as u8;
             let frame = with_crc(vec![1, 0x06, 0, register, 0xFF, 0x6A]);
-            for item in 1..=12 {
+            for item in 1..=13 {
                 let value = (item == level).then_some(-150);
                 assert_eq!(written(&frame, 1, item), value);
             }
@@ -114,8 +114,8 @@ mod tests {
 
     #[test]
     fn a_read_of_all_registers_writes_none() {
-        let frame = with_crc(vec![1, 0x03, 0, 0, 0, 19]);
-        for item in 1..=12 {
+        let frame = with_crc(vec![1, 0x03, 0, 0, 0, 20]);
+        for item in 1..=13 {
             assert_eq!(written(&frame, 1, item), None);
         }
     }

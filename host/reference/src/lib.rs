@@ -33,12 +33,12 @@ fn stepped(state: &mut [u8], buffer: &mut [u8], structure: u8, step: link::Step)
     replied(buffer, step.number, &sent)
 }
 
-/// Sets each entry to its start value: 0, or 1 where the table is not 12 long.
+/// Sets each entry to its start value: 0, or 1 where the table is not 13 long.
 pub fn start_table(table: &mut [i32]) -> u32 {
-    if table.len() != 12 {
+    if table.len() != 13 {
         return 1;
     }
-    for number in 1..=12 {
+    for number in 1..=13 {
         table[number - 1] = items::item(number).start;
     }
     0
@@ -140,7 +140,7 @@ pub fn put(table: &mut [i32], item: u32, value: i32) -> u32 {
     if fault != 0 {
         return fault;
     }
-    if !(1..=12).contains(&item) {
+    if !(1..=13).contains(&item) {
         return 6;
     }
     let item = item as usize;
@@ -190,7 +190,7 @@ pub fn write_text(decimals: u8, value: i32, chars: &mut [u8]) -> u32 {
 /// at the start table and is handed the frames one at a time. 1, 4, 51, or 0 whatever the frames
 /// gave. The lent table is only where the result goes, so there is no 2; a refusal leaves it.
 pub fn playback(table: &mut [i32], address: u8, capture: &[u8]) -> u32 {
-    if table.len() != 12 {
+    if table.len() != 13 {
         return 1;
     }
     if address == 0 || address > 99 {
@@ -250,7 +250,7 @@ pub fn last_write(
     if address == 0 || address > 99 {
         return 4;
     }
-    if !(1..=12).contains(&item) {
+    if !(1..=13).contains(&item) {
         return 6;
     }
     let told = match last_write::told(capture, address, item as usize) {

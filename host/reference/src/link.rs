@@ -75,9 +75,9 @@ fn decode_two(first: u8, second: u8) -> Option<Phase> {
     Some(Phase::TwoCharacters { first, second })
 }
 
-/// A waiting item is 1 to 12. Every time is good.
+/// A waiting item is 1 to 13. Every time is good.
 fn decode_waiting(item: u8, time: &[u8]) -> Option<Phase> {
-    if !(1..=12).contains(&item) {
+    if !(1..=13).contains(&item) {
         return None;
     }
     let time = u32::from_le_bytes([time[0], time[1], time[2], time[3]]);
@@ -263,7 +263,7 @@ fn two_characters(id: [u8; 2], table: &[i32], now: u32, received: Received) -> S
 /// low and high.
 fn data(item: usize, table: &[i32], now: u32) -> Step {
     let row = items::item(item);
-    let six = match number::write(row.decimals, table[item - 1]) {
+    let six = match number::write(items::decimals(table, item), table[item - 1]) {
         Ok(six) => six,
         Err(_) => return ended(46),
     };
@@ -285,13 +285,13 @@ fn data(item: usize, table: &[i32], now: u32) -> Step {
     }
 }
 
-/// While waiting: ACK sends the next item of the list, after item 12 EOT and rest (45); NAK sends
+/// While waiting: ACK sends the next item of the list, after item 13 EOT and rest (45); NAK sends
 /// the same item with its value now; a character 20H to 7EH starts the identifier of a new poll of
 /// the same address, which from then on is a poll like any other; any other byte, a line error
 /// too: EOT, rest (43).
 fn waiting(item: usize, table: &[i32], now: u32, received: Received) -> Step {
     match received {
-        Received::Character(ACK) if item == 12 => ended(45),
+        Received::Character(ACK) if item == 13 => ended(45),
         Received::Character(ACK) => data(item + 1, table, now),
         Received::Character(NAK) => data(item, table, now),
         Received::Character(first) if printable(first) => silent(Phase::OneCharacter { first }),
@@ -327,7 +327,7 @@ fn text(mut block: Block, received: Received) -> Step {
 /// After ETX the next byte is the BCC, also when it looks like EOT. The answer is ACK with the
 /// item stored, or NAK.
 fn bcc_place(block: &Block, table: &mut [i32], received: Received) -> Step {
-    let (number, reply) = match judge(block, received) {
+    let (number, reply) = match judge(block, table, received) {
         Ok((item, value)) => {
             items::store(table, item, value);
             (0, ACK)
@@ -342,7 +342,7 @@ fn bcc_place(block: &Block, table: &mut [i32], received: Received) -> Step {
 }
 
 /// The item and value that a block brings, or the first of 11 to 18 that it meets.
-fn judge(block: &Block, received: Received) -> Result<(usize, i32), u32> {
+fn judge(block: &Block, table: &[i32], received: Received) -> Result<(usize, i32), u32> {
     // 11: a line error, in the text or in the BCC's place.
     let check = match received {
         Received::Character(check) if !block.mark => check,
@@ -366,7 +366,7 @@ fn judge(block: &Block, received: Received) -> Result<(usize, i32), u32> {
         return Err(15);
     }
     // 16: no number.
-    let value = number::read(items::item(item).decimals, &block.kept[2..])?;
+    let value = number::read(items::decimals(table, item), &block.kept[2..])?;
     // 17: read-only.
     if !items::item(item).writable {
         return Err(17);
@@ -421,7 +421,7 @@ mod tests {
                 second: b'B',
             },
             Phase::Waiting {
-                item: 12,
+                item: 13,
                 time: 0x0403_0201,
             },
             Phase::Text(block.clone()),

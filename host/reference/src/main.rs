@@ -2,6 +2,7 @@
 //! the same lines with the values that the documents print, and says what each kind of line means.
 
 mod alarm_examples;
+mod point_examples;
 
 use reference::{items, line, modbus};
 
@@ -9,7 +10,7 @@ use reference::{items, line, modbus};
 struct Instrument {
     address: u8,
     state: [u8; 24],
-    table: [i32; 12],
+    table: [i32; 13],
     reply: [u8; 256],
 }
 
@@ -18,7 +19,7 @@ impl Instrument {
         let mut instrument = Instrument {
             address,
             state: [0; 24],
-            table: [0; 12],
+            table: [0; 13],
             reply: [0; 256],
         };
         reference::start_table(&mut instrument.table);
@@ -28,9 +29,13 @@ impl Instrument {
 
     /// A value put by the firmware.
     fn put(&mut self, id: &str, value: i32) {
-        let item = items::with_id(id.as_bytes()).expect("an item of the list");
-        let number = reference::put(&mut self.table, item as u32, value);
+        let number = reference::put(&mut self.table, item_of(id) as u32, value);
         assert_eq!(number, 0, "{} takes {}", id, value);
+    }
+
+    /// What stands in an item's entry.
+    fn entry(&self, id: &str) -> i32 {
+        self.table[item_of(id) - 1]
     }
 
     /// The number and the reply of a call's result.
@@ -73,6 +78,11 @@ impl Instrument {
     }
 }
 
+/// The number of an item that the list has.
+fn item_of(id: &str) -> usize {
+    items::with_id(id.as_bytes()).expect("an item of the list")
+}
+
 /// Bytes as pairs of hexadecimal digits.
 fn hex(bytes: &[u8]) -> String {
     let pairs: Vec<String> = bytes.iter().map(|byte| format!("{:02X}", byte)).collect();
@@ -104,8 +114,7 @@ fn read(id: &str, text: &str) {
     let mut instrument = Instrument::at(1);
     let (number, _) = instrument.line(&selecting(&format!("{}{}", id, text)));
     if number == 0 {
-        let item = items::with_id(id.as_bytes()).expect("an item of the list");
-        println!("read {} \"{}\" -> {}", id, text, instrument.table[item - 1]);
+        println!("read {} \"{}\" -> {}", id, text, instrument.entry(id));
     } else {
         println!("read {} \"{}\" -> {}", id, text, number);
     }
@@ -214,7 +223,7 @@ fn pdu(request: &str) {
 
 /// A capture played back.
 fn playback(address: u8, capture: &str) {
-    let mut table = [0; 12];
+    let mut table = [0; 13];
     let number = reference::playback(&mut table, address, &bytes(capture));
     if number == 0 {
         let entries = table.map(|entry| entry.to_string()).join(" ");
@@ -499,4 +508,5 @@ fn main() {
     ascii_lines();
     ascii_edges();
     alarm_examples::all();
+    point_examples::all();
 }

@@ -102,7 +102,7 @@ fn check_length(body: &[u8]) -> Result<(), u8> {
     }
 }
 
-/// 03H: quantity 1 to 125, then start plus quantity at most 19. Unlisted registers read 0.
+/// 03H: quantity 1 to 125, then start plus quantity at most 20. Unlisted registers read 0.
 fn read(table: &[i32], body: &[u8]) -> Result<Vec<u8>, u8> {
     check_length(body)?;
     let start = word(body[2], body[3]);
@@ -110,7 +110,7 @@ fn read(table: &[i32], body: &[u8]) -> Result<Vec<u8>, u8> {
     if !(1..=125).contains(&quantity) {
         return Err(3);
     }
-    if u32::from(start) + u32::from(quantity) > 19 {
+    if u32::from(start) + u32::from(quantity) > 20 {
         return Err(2);
     }
     let mut reply = vec![body[0], body[1], (2 * quantity) as u8];

@@ -77,6 +77,13 @@ impl Compare {
         Ok(result)
     }
 
+    /// Makes a call that may be answered. Number and reply.
+    pub fn heard(&mut self, call: &mut Call) -> Checked<(u32, Vec<u8>)> {
+        let result = self.call(call)?;
+        let reply = call.reply[..(result / 256) as usize].to_vec();
+        Ok((result % 256, reply))
+    }
+
     /// Compares all that is still under way.
     pub fn finish(&mut self) -> Checked<()> {
         self.turn()?;

@@ -33,6 +33,11 @@ pub const TEXT: u8 = 7;
 pub const BCC_DUE: u8 = 8;
 pub const PHASES: u8 = 10;
 
+/// The number of any item of the list, which has 13.
+pub fn any_item(random: &mut Random) -> usize {
+    1 + random.below(13)
+}
+
 /// A value that an item may have, often at an end of its range.
 pub fn good_value(random: &mut Random, item: usize) -> i32 {
     let row = &ITEMS[item - 1];
@@ -57,7 +62,7 @@ pub fn any_value(random: &mut Random, item: usize) -> i32 {
 
 /// A table that every call takes. The measured value is often at an alarm's level, or beside it.
 pub fn good_table(random: &mut Random) -> Vec<i32> {
-    let mut table: Vec<i32> = (1..=12).map(|item| good_value(random, item)).collect();
+    let mut table: Vec<i32> = (1..=13).map(|item| good_value(random, item)).collect();
     if random.one_in(2) {
         let level = table[random.pick(&[6, 7])];
         table[0] = (level + random.between(-1, 1)).clamp(ITEMS[0].low, ITEMS[0].high);
@@ -128,7 +133,7 @@ fn another(random: &mut Random, state: i32) -> i32 {
 pub fn bad_table(random: &mut Random) -> Vec<i32> {
     let mut table = good_table(random);
     for _ in 0..random.below(3) {
-        let item = random.below(12) + 1;
+        let item = any_item(random);
         table[item - 1] = any_value(random, item);
     }
     table
@@ -137,7 +142,7 @@ pub fn bad_table(random: &mut Random) -> Vec<i32> {
 /// A table of any length.
 pub fn odd_table(random: &mut Random) -> Vec<i32> {
     let mut table = bad_table(random);
-    let length = random.pick(&[0, 1, 11, 12, 13, 24]);
+    let length = random.pick(&[0, 1, 12, 13, 14, 26]);
     table.resize(length, 0);
     table
 }
@@ -156,7 +161,7 @@ pub fn good_state(random: &mut Random, phase: u8) -> Vec<u8> {
     state[0] = phase;
     match phase {
         ONE_CHARACTER | TWO_CHARACTERS => keep_identifier(random, &mut state),
-        WAITING => state[1] = random.between(1, 12) as u8,
+        WAITING => state[1] = any_item(random) as u8,
         TEXT | BCC_DUE => keep_block(random, &mut state),
         _ => {}
     }
@@ -168,7 +173,7 @@ pub fn identifier(random: &mut Random) -> [u8; 2] {
     if random.one_in(4) {
         [random.byte() & 0x7F, random.byte() & 0x7F]
     } else {
-        ITEMS[random.below(12)].id
+        ITEMS[any_item(random) - 1].id
     }
 }
 
@@ -206,7 +211,7 @@ pub fn outside_limits(state: &mut [u8], random: &mut Random) {
         _ => 0,
     };
     match (state[0], random.below(3)) {
-        (WAITING, _) => state[1] = random.pick(&[0, 13, 14, 128, 255]),
+        (WAITING, _) => state[1] = random.pick(&[0, 14, 15, 128, 255]),
         (TEXT | BCC_DUE, 0) => state[2] = random.pick(&[10, 11, 128, 255]),
         (TEXT | BCC_DUE, 1) => state[3] |= 0x80,
         _ if kept > 0 => state[12 + random.below(kept)] |= 0x80,
@@ -220,7 +225,7 @@ pub fn bad_state(random: &mut Random) -> Vec<u8> {
     let mut state = good_state(random, phase);
     for _ in 0..random.below(3) {
         let place = random.pick(&[0, 1, 2, 3, 4, 8, 11, 12, 13, 14, 15, 18, 19, 20, 23]);
-        state[place] = random.pick(&[0, 1, 8, 9, 10, 12, 13, 0x7F, 0x80, 0xFF]);
+        state[place] = random.pick(&[0, 1, 8, 9, 10, 12, 13, 14, 0x7F, 0x80, 0xFF]);
     }
     state
 }

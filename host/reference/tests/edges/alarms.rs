@@ -4,23 +4,14 @@ use crate::block::block;
 use crate::captures::{capture, write};
 use crate::rtu::ask;
 use crate::*;
-use reference::ascii::line_of;
 use reference::{number, playback, put, start_table};
 
 /// Levels that M1 can be at or below, the ends of the range and negative ones among them.
 const LEVELS: [i32; 8] = [-1999, -1998, -150, -1, 0, 1, 500, 9999];
 
 /// A good table with this M1, A1 and A2.
-fn standing(m1: i32, a1: i32, a2: i32) -> [i32; 12] {
-    agreeing([m1, 0, 0, 1, 7, -3, a1, a2, 5, 1000, 9, 11])
-}
-
-/// A link with this table.
-fn with(table: [i32; 12]) -> Link {
-    Link {
-        table: table.to_vec(),
-        ..Link::start()
-    }
+fn standing(m1: i32, a1: i32, a2: i32) -> [i32; 13] {
+    agreeing([m1, 0, 0, 1, 7, -3, a1, a2, 5, 1000, 9, 11, 1])
 }
 
 /// One step below, at and above a level, as far as the range goes.
@@ -29,7 +20,7 @@ fn around(level: i32) -> impl Iterator<Item = i32> {
 }
 
 /// Each M1 around each level, with A1 and A2 around it or elsewhere.
-fn each_table(test: impl Fn([i32; 12])) {
+fn each_table(test: impl Fn([i32; 13])) {
     for level in LEVELS {
         for m1 in around(level) {
             for a1 in around(level).chain([77]) {
@@ -60,27 +51,6 @@ fn what_the_firmware_puts_keeps_them_true() {
     });
 }
 
-/// The tables that a link is left with when this level is written to it: by a block, and by 06H and
-/// 10H in a frame and in a line.
-fn written(before: [i32; 12], id: &[u8; 2], register: u8, level: i32) -> [Vec<i32>; 5] {
-    let [high, low] = (level as i16).to_be_bytes();
-    let single = vec![1, 0x06, 0, register, high, low];
-    let several = vec![1, 0x10, 0, register, 0, 1, 2, high, low];
-    let text = [&id[..], &number::write(1, level).unwrap()].concat();
-    let left = |call: &dyn Fn(&mut Link) -> u32| {
-        let mut link = with(before);
-        assert_eq!(call(&mut link), 0);
-        link.table
-    };
-    [
-        left(&|link| link.bytes(&block(&text)).0),
-        left(&|link| ask(link, &single).0),
-        left(&|link| ask(link, &several).0),
-        left(&|link| link.ascii(&line_of(single.clone())).0),
-        left(&|link| link.ascii(&line_of(several.clone())).0),
-    ]
-}
-
 #[test]
 fn what_either_line_writes_keeps_them_true() {
     for (place, id, register) in [(6, b"A1", 0x0C), (7, b"A2", 0x0E)] {
@@ -88,7 +58,8 @@ fn what_either_line_writes_keeps_them_true() {
             for level in around(before[0]) {
                 let mut expected = before;
                 expected[place] = level;
-                for left in written(before, id, register, level) {
+                let text = [&id[..], &number::write(1, level).unwrap()].concat();
+                for left in written(before, &text, register, level) {
                     assert_eq!(left, agreeing(expected));
                 }
             }
@@ -128,7 +99,7 @@ fn put_refuses_items_2_and_3_at_any_value() {
         }
     });
     // Behind 1 and 2.
-    assert_eq!(put(&mut [0; 11], 2, 0), 1);
+    assert_eq!(put(&mut [0; 12], 2, 0), 1);
     let mut table = START;
     table[1] = 1;
     assert_eq!(put(&mut table, 2, 0), 2);
@@ -139,7 +110,7 @@ fn put_refuses_items_2_and_3_at_any_value() {
 fn neither_line_writes_them() {
     for table in [standing(499, 500, 500), standing(500, 500, 500)] {
         for (text, number) in [("AA0", 17), ("AA1", 17), ("AB0", 17), ("AB1", 17)] {
-            let mut link = with(table);
+            let mut link = Link::with(table);
             assert_eq!(link.bytes(&block(text.as_bytes())), (number, vec![NAK]));
             assert_eq!(link.table, table);
         }
@@ -150,7 +121,7 @@ fn neither_line_writes_them() {
             &[1, 0x10, 0, 1, 0, 1, 2, 0, 1],
             &[1, 0x10, 0, 1, 0, 2, 4, 0, 1, 0, 1],
         ] {
-            let mut link = with(table);
+            let mut link = Link::with(table);
             assert_eq!(ask(&mut link, body).0, 32);
             assert_eq!(link.table, table);
         }
@@ -158,7 +129,7 @@ fn neither_line_writes_them() {
 }
 
 /// Each table with alarm states that are not true, in each way: one of them, both, and outside 0 to 1.
-fn each_disagreeing(test: impl Fn([i32; 12])) {
+fn each_disagreeing(test: impl Fn([i32; 13])) {
     each_table(|table| {
         for aa in [-1, 0, 1, 2] {
             for ab in [-1, 0, 1, 2] {
@@ -177,13 +148,13 @@ fn each_disagreeing(test: impl Fn([i32; 12])) {
 fn a_table_that_disagrees_is_2_before_3_and_4_and_left_as_it_came() {
     each_disagreeing(|table| {
         // Nothing else is wrong; then all that is tried later is.
-        let good = with(table);
+        let good = Link::with(table);
         let bad = Link {
             state: vec![],
             reply: vec![FILL; 255],
             address: 100,
             structure: 3,
-            ..with(table)
+            ..Link::with(table)
         };
         for mut link in [good, bad] {
             refused(&mut link, |link| link.byte(EOT), 2);
@@ -192,7 +163,7 @@ fn a_table_that_disagrees_is_2_before_3_and_4_and_left_as_it_came() {
             refused(&mut link, |link| link.ascii(&line), 2);
         }
         // No put mends it.
-        for (item, value) in [(1, 0), (2, 0), (3, 1), (7, 500), (11, 0), (13, 0)] {
+        for (item, value) in [(1, 0), (2, 0), (3, 1), (7, 500), (11, 0), (14, 0)] {
             let mut left = table;
             assert_eq!(put(&mut left, item, value), 2);
             assert_eq!(left, table);
@@ -226,7 +197,7 @@ fn playback_keeps_them_true() {
     ];
     for number in 1..=frames.len() {
         let recorded: Vec<Vec<u8>> = frames[..number].iter().map(|one| one.0.clone()).collect();
-        let mut table = [i32::MAX; 12];
+        let mut table = [i32::MAX; 13];
         assert_eq!(playback(&mut table, 1, &capture(&recorded)), 0);
         assert_eq!(table[1..3], frames[number - 1].1);
     }

@@ -70,6 +70,10 @@ fn both_ends_of_each_items_range() {
     ack(b"TM999.99", 12, 999);
     nak(b"TM-1", 18);
     nak(b"TM1000", 18);
+    ack(b"XU-.9999", 13, 0);
+    ack(b"XU3.9999", 13, 3);
+    nak(b"XU-1", 18);
+    nak(b"XU4", 18);
 }
 
 #[test]

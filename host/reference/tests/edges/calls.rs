@@ -4,7 +4,7 @@ use crate::*;
 use reference::{put, start_link, start_table};
 
 /// Low and high of each item.
-const LIMITS: [(i32, i32); 12] = [
+const LIMITS: [(i32, i32); 13] = [
     (-1999, 9999),
     (0, 1),
     (0, 1),
@@ -17,6 +17,7 @@ const LIMITS: [(i32, i32); 12] = [
     (500, 1500),
     (0, 100),
     (0, 999),
+    (0, 3),
 ];
 
 /// Low and high of an item. Neither of AA and AB, which are not put and must agree with other entries.
@@ -30,10 +31,10 @@ fn both_ends(place: usize) -> Vec<i32> {
 
 #[test]
 fn a_start_table_has_the_start_values() {
-    let mut table = [-7; 12];
+    let mut table = [-7; 13];
     assert_eq!(start_table(&mut table), 0);
     assert_eq!(table, START);
-    for length in [0, 1, 11, 13] {
+    for length in [0, 1, 12, 14] {
         let mut table = vec![-7; length];
         assert_eq!(start_table(&mut table), 1);
         assert_eq!(table, vec![-7; length]);
@@ -73,23 +74,23 @@ fn put_takes_low_and_high_of_each_item_and_refuses_one_past_them() {
 
 #[test]
 fn put_tries_1_2_6_and_7() {
-    let mut short = [i32::MAX; 11];
-    assert_eq!(put(&mut short, 13, i32::MAX), 1);
-    assert_eq!(short, [i32::MAX; 11]);
+    let mut short = [i32::MAX; 12];
+    assert_eq!(put(&mut short, 14, i32::MAX), 1);
+    assert_eq!(short, [i32::MAX; 12]);
 
     // A bad entry is refused even where the put would mend it.
     let mut bad = START;
     bad[8] = 1001;
-    assert_eq!(put(&mut bad, 13, i32::MAX), 2);
+    assert_eq!(put(&mut bad, 14, i32::MAX), 2);
     assert_eq!(put(&mut bad, 9, 0), 2);
     assert_eq!(bad[8], 1001);
 
-    for item in [0, 13, 256 + 1, u32::MAX] {
+    for item in [0, 14, 256 + 1, u32::MAX] {
         let mut table = START;
         assert_eq!(put(&mut table, item, i32::MAX), 6);
         assert_eq!(table, START);
     }
-    assert_eq!(put(&mut START.clone(), 12, 1000), 7);
+    assert_eq!(put(&mut START.clone(), 13, 4), 7);
 }
 
 #[test]
@@ -118,16 +119,16 @@ fn every_entry_outside_its_limits_is_2() {
 fn a_byte_tries_1_to_5_in_order() {
     let mut link = Link {
         state: vec![0; 23],
-        table: vec![i32::MAX; 11],
+        table: vec![i32::MAX; 12],
         reply: vec![FILL; 255],
         address: 100,
         structure: 3,
         now: 0,
     };
     refused(&mut link, |link| link.byte(0xFF), 1);
-    link.table = vec![i32::MAX; 13];
+    link.table = vec![i32::MAX; 14];
     refused(&mut link, |link| link.byte(0xFF), 1);
-    link.table = vec![i32::MAX; 12];
+    link.table = vec![i32::MAX; 13];
     refused(&mut link, |link| link.byte(0xFF), 2);
     link.table = START.to_vec();
     refused(&mut link, |link| link.byte(0xFF), 3);
@@ -171,14 +172,14 @@ fn an_idle_call_tries_3_4_and_5() {
 fn tries_1_to_4(call: fn(&mut Link) -> (u32, Vec<u8>), nothing: u32) {
     let mut link = Link {
         state: vec![],
-        table: vec![i32::MAX; 11],
+        table: vec![i32::MAX; 12],
         reply: vec![FILL; 255],
         address: 0,
         structure: 3,
         now: 0,
     };
     refused(&mut link, call, 1);
-    link.table = vec![i32::MAX; 12];
+    link.table = vec![i32::MAX; 13];
     refused(&mut link, call, 2);
     link.table = START.to_vec();
     refused(&mut link, call, 3);
@@ -224,8 +225,8 @@ fn a_state_outside_its_limits_is_5() {
 
     outside(waiting(0, 0));
     inside(waiting(1, u32::MAX));
-    inside(waiting(12, 0));
-    outside(waiting(13, 0));
+    inside(waiting(13, 0));
+    outside(waiting(14, 0));
     outside(waiting(255, 0));
 
     inside(one(0x00));

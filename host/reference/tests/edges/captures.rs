@@ -4,7 +4,7 @@ use crate::*;
 use reference::modbus::with_crc;
 
 /// What no playback leaves: every entry lies outside its range.
-const BEFORE: [i32; 12] = [i32::MIN; 12];
+const BEFORE: [i32; 13] = [i32::MIN; 13];
 
 /// A frame with its number of bytes behind it.
 pub fn record(frame: &[u8]) -> Vec<u8> {
@@ -43,7 +43,7 @@ fn show(capture: &[u8], frame: u32) -> (u32, u32, u32) {
 }
 
 /// Number and table of a capture played back at address 1.
-fn played(capture: &[u8]) -> (u32, [i32; 12]) {
+fn played(capture: &[u8]) -> (u32, [i32; 13]) {
     let mut table = BEFORE;
     let number = reference::playback(&mut table, 1, capture);
     (number, table)
@@ -234,9 +234,11 @@ fn playback_goes_from_the_start_table_through_the_frames_in_their_order() {
 fn playback_equals_handing_the_frames_over() {
     let frames = [
         write(0x12, 100),
-        with_crc(vec![1, 0x03, 0, 0, 0, 19]),
+        with_crc(vec![1, 0x03, 0, 0, 0, 20]),
         write(0x12, 101),
         write(0x08, 999),
+        write(0x13, 3),
+        write(0x13, 4),
         with_crc(vec![1, 0x10, 0, 0x0B, 0, 2, 4, 0, 1, 0xFF, 0xFF]),
     ];
     let mut link = Link::start();
@@ -264,7 +266,7 @@ fn each_frame_is_shown_by_its_number() {
 fn playback_tries_1_then_4_then_51() {
     let good = capture(&[write(0x10, 1)]);
     let bad = &good[1..];
-    for length in [0, 1, 11, 13, 24] {
+    for length in [0, 1, 12, 14, 26] {
         for (address, capture) in [(1, &good[..]), (0, &good), (1, bad), (100, bad)] {
             let mut table = vec![-1; length];
             assert_eq!(reference::playback(&mut table, address, capture), 1);

@@ -8,7 +8,7 @@ const PR: u32 = 10;
 const F1: u32 = 11;
 
 /// The writable items, each with its register and a value that differs from its start.
-const WRITABLE: [(u32, u8, i16); 7] = [
+const WRITABLE: [(u32, u8, i16); 8] = [
     (6, 0x0B, -1999),
     (7, 0x0C, 9999),
     (8, 0x0E, -1),
@@ -16,6 +16,7 @@ const WRITABLE: [(u32, u8, i16); 7] = [
     (PR, 0x11, 501),
     (F1, 0x12, 100),
     (12, 0x08, 999),
+    (13, 0x13, 3),
 ];
 
 /// Result, value and records of a question at address 1.
@@ -70,7 +71,7 @@ fn the_last_write_answers() {
 
 #[test]
 fn six_bytes_have_no_write() {
-    for item in 1..=12 {
+    for item in 1..=13 {
         assert_eq!(asked(&[0; 6], item), never(0));
     }
     // A count, or a place, in each of their bytes.
@@ -86,7 +87,7 @@ fn each_writable_item_by_both_functions() {
     for (item, register, value) in WRITABLE {
         for frame in [write(register, value), several(register, &[value])] {
             let whole = capture(&[frame]);
-            for other in 1..=12 {
+            for other in 1..=13 {
                 let due = if other == item {
                     found(i32::from(value), 1)
                 } else {
@@ -111,10 +112,11 @@ fn a_write_of_the_value_that_the_item_has_is_a_write() {
 
 #[test]
 fn a_write_of_several_registers_writes_each_item_that_it_names() {
-    let whole = capture(&[write(0x08, 5), several(0x10, &[-150, 1000, 100])]);
+    let whole = capture(&[write(0x08, 5), several(0x10, &[-150, 1000, 100, 0])]);
     assert_eq!(asked(&whole, PB), found(-150, 1));
     assert_eq!(asked(&whole, PR), found(1000, 1));
     assert_eq!(asked(&whole, F1), found(100, 1));
+    assert_eq!(asked(&whole, 13), found(0, 1));
     assert_eq!(asked(&whole, 12), found(5, 2));
     assert_eq!(asked(&whole, 8), never(2));
 }
@@ -279,19 +281,19 @@ fn a_last_write_tries_4_then_6_then_51() {
     let good = capture(&[write(0x10, 1)]);
     let bad = &good[1..];
     for address in [0, 100, 128, 255] {
-        for item in [0, PB, 13] {
+        for item in [0, PB, 14] {
             assert_eq!(asked_at(address, &good, item), refused(4));
             assert_eq!(asked_at(address, bad, item), refused(4));
         }
     }
-    for item in [0, 13, 256 + PB, 1 << 31 | PB, u32::MAX] {
+    for item in [0, 14, 256 + PB, 1 << 31 | PB, u32::MAX] {
         for address in [1, 99] {
             assert_eq!(asked_at(address, &good, item), refused(6));
             assert_eq!(asked_at(address, bad, item), refused(6));
             assert_eq!(asked_at(address, &[], item), refused(6));
         }
     }
-    for item in 1..=12 {
+    for item in 1..=13 {
         assert_eq!(asked(bad, item), refused(51));
     }
     assert_eq!(asked_at(99, &good, PB), never(1));

@@ -7,10 +7,13 @@ mod calls;
 mod captures;
 mod last_write;
 mod phases;
+mod point;
 mod polling_on;
 mod rtu;
 mod several;
 mod text;
+
+use reference::ascii::line_of;
 
 /// What fills a reply buffer before a call, to see what stays.
 pub const FILL: u8 = 0xA5;
@@ -22,32 +25,33 @@ pub const ENQ: u8 = 0x05;
 pub const ACK: u8 = 0x06;
 pub const NAK: u8 = 0x15;
 
-pub const START: [i32; 12] = [0, 0, 0, 0, 0, 0, 500, 500, 0, 1000, 0, 0];
+pub const START: [i32; 13] = [0, 0, 0, 0, 0, 0, 500, 500, 0, 1000, 0, 0, 1];
 
-/// Values that make every item's text its own; M1 stands at A1 and below A2.
-pub const OWN: [i32; 12] = [-15, 1, 0, 1, 255, 9999, -15, -14, -1000, 1500, 100, 999];
+/// Values that make every item's text its own; M1 stands at A1 and below A2, and XU gives two decimals.
+pub const OWN: [i32; 13] = [-15, 1, 0, 1, 255, 9999, -15, -14, -1000, 1500, 100, 999, 2];
 
 /// The same table with the alarm states that M1, A1 and A2 make true.
-pub fn agreeing(mut table: [i32; 12]) -> [i32; 12] {
+pub fn agreeing(mut table: [i32; 13]) -> [i32; 13] {
     table[1] = i32::from(table[0] >= table[6]);
     table[2] = i32::from(table[0] >= table[7]);
     table
 }
 
 /// What each item sends then: identifier and six characters.
-pub const OWN_TEXTS: [&[u8; 8]; 12] = [
-    b"M1-001.5",
+pub const OWN_TEXTS: [&[u8; 8]; 13] = [
+    b"M1-00.15",
     b"AA000001",
     b"AB000000",
     b"B1000001",
     b"ER000255",
-    b"S10999.9",
-    b"A1-001.5",
-    b"A2-001.4",
+    b"S1099.99",
+    b"A1-00.15",
+    b"A2-00.14",
     b"PB-10.00",
     b"PR01.500",
     b"F1000100",
     b"TM000999",
+    b"XU000002",
 ];
 
 /// The reply that sends an identifier and six characters.
@@ -157,6 +161,13 @@ impl Link {
         }
     }
 
+    pub fn with(table: [i32; 13]) -> Link {
+        Link {
+            table: table.to_vec(),
+            ..Link::start()
+        }
+    }
+
     /// One byte: the number and the reply. All past the reply must have stayed.
     pub fn byte(&mut self, byte: u8) -> (u32, Vec<u8>) {
         let before = self.reply.clone();
@@ -204,6 +215,26 @@ impl Link {
         assert_eq!(self.reply[length..], before[length..]);
         (result % 256, self.reply[..length].to_vec())
     }
+}
+
+/// The tables that a link is left with when a value is written to it: by a block of this text, and by
+/// 06H and 10H in a frame and in a line.
+pub fn written(before: [i32; 13], text: &[u8], register: u8, value: i32) -> [Vec<i32>; 5] {
+    let [high, low] = (value as i16).to_be_bytes();
+    let single = vec![1, 0x06, 0, register, high, low];
+    let several = vec![1, 0x10, 0, register, 0, 1, 2, high, low];
+    let left = |call: &dyn Fn(&mut Link) -> u32| {
+        let mut link = Link::with(before);
+        assert_eq!(call(&mut link), 0);
+        link.table
+    };
+    [
+        left(&|link| link.bytes(&block::block(text)).0),
+        left(&|link| rtu::ask(link, &single).0),
+        left(&|link| rtu::ask(link, &several).0),
+        left(&|link| link.ascii(&line_of(single.clone())).0),
+        left(&|link| link.ascii(&line_of(several.clone())).0),
+    ]
 }
 
 /// A call that gives a number back, has no reply and leaves all as it came.

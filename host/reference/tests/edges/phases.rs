@@ -166,7 +166,7 @@ fn byte_calls_do_not_look_at_the_time() {
 fn alarm_states_are_sent_as_they_stand_in_the_table() {
     for (m1, a2, states) in [(499, 500, *b"00"), (500, 501, *b"10"), (500, 500, *b"11")] {
         let mut link = Link::start();
-        link.table = agreeing([m1, 0, 0, 0, 0, 0, 500, a2, 0, 1000, 0, 0]).to_vec();
+        link.table = agreeing([m1, 0, 0, 0, 0, 0, 500, a2, 0, 1000, 0, 0, 1]).to_vec();
         for (id, state) in [b"AA", b"AB"].into_iter().zip(states) {
             let text = [id[0], id[1], b'0', b'0', b'0', b'0', b'0', state];
             let poll = [EOT, b'0', b'1', id[0], id[1], ENQ];

@@ -27,7 +27,7 @@ fn the_customers_program_polls_m1_and_then_s1() {
 
 #[test]
 fn from_each_item_to_each_item() {
-    for item in 1..=12 {
+    for item in 1..=13 {
         for (place, text) in OWN_TEXTS.iter().enumerate() {
             let mut link = Link::from(waiting(item, 5));
             link.table = OWN.to_vec();
@@ -47,6 +47,7 @@ fn the_new_item_is_the_one_that_nak_and_ack_go_on_from() {
     assert_eq!(link.byte(NAK), (0, data(b"PR00.999")));
     assert_eq!(link.byte(ACK), (0, data(b"F1000100")));
     assert_eq!(link.bytes(b"TM\x05"), (0, data(b"TM000999")));
+    assert_eq!(link.byte(ACK), (0, data(b"XU000002")));
     assert_eq!(link.byte(ACK), (45, vec![EOT]));
 }
 
@@ -55,7 +56,7 @@ fn one_character_is_kept_and_nothing_of_the_item_or_the_time() {
     // All but the phase and the item is FFH.
     let mut hostile = [0xFF; 24];
     hostile[0] = WAITING;
-    hostile[1] = 12;
+    hostile[1] = 13;
     goes(hostile, b'S', one(b'S'));
 }
 

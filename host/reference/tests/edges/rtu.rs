@@ -4,7 +4,7 @@ use crate::*;
 use reference::modbus::with_crc;
 
 /// Each writable item: register, number, low and high.
-pub const WRITABLE: [(u8, usize, i16, i16); 7] = [
+pub const WRITABLE: [(u8, usize, i16, i16); 8] = [
     (0x08, 12, 0, 999),
     (0x0B, 6, -1999, 9999),
     (0x0C, 7, -1999, 9999),
@@ -12,6 +12,7 @@ pub const WRITABLE: [(u8, usize, i16, i16); 7] = [
     (0x10, 9, -1000, 1000),
     (0x11, 10, 500, 1500),
     (0x12, 11, 0, 100),
+    (0x13, 13, 0, 3),
 ];
 
 /// The number and the reply without its CRC, whose rightness is looked at here.
@@ -126,14 +127,14 @@ fn a_read_tries_its_quantity_and_then_its_span() {
     exception(&[1, 3, 0xFF, 0xFF, 0, 0], 3);
     exception(&[1, 3, 0xFF, 0xFF, 0, 126], 3);
     exception(&[1, 3, 0, 0, 0, 125], 2);
-    exception(&[1, 3, 0, 0, 0, 20], 2);
-    exception(&[1, 3, 0, 19, 0, 1], 2);
-    exception(&[1, 3, 0, 18, 0, 2], 2);
+    exception(&[1, 3, 0, 0, 0, 21], 2);
+    exception(&[1, 3, 0, 20, 0, 1], 2);
+    exception(&[1, 3, 0, 19, 0, 2], 2);
     exception(&[1, 3, 0xFF, 0xFF, 0, 1], 2);
     exception(&[1, 3, 0xFF, 0xFF, 0, 2], 2);
     assert_eq!(
-        ask(&mut Link::start(), &[1, 3, 0, 18, 0, 1]),
-        (0, vec![1, 3, 2, 0, 0])
+        ask(&mut Link::start(), &[1, 3, 0, 19, 0, 1]),
+        (0, vec![1, 3, 2, 0, 1])
     );
 }
 
@@ -141,8 +142,10 @@ fn a_read_tries_its_quantity_and_then_its_span() {
 fn a_read_of_the_whole_map() {
     let mut link = Link::start();
     // M1 stands at A1 and below A2.
-    link.table = vec![-150, 1, 0, 1, 255, 9999, -150, -149, -1000, 1500, 100, 999];
-    let mut expected = vec![1, 3, 38];
+    link.table = vec![
+        -150, 1, 0, 1, 255, 9999, -150, -149, -1000, 1500, 100, 999, 3,
+    ];
+    let mut expected = vec![1, 3, 40];
     for register in [
         0xFF6Au16, // 0000H M1
         0x0001,    // AA
@@ -160,14 +163,15 @@ fn a_read_of_the_whole_map() {
         0xFC18, // 0010H PB
         0x05DC, // 0011H PR
         0x0064, // 0012H F1
+        0x0003, // 0013H XU
     ] {
         expected.push((register >> 8) as u8);
         expected.push(register as u8);
     }
-    assert_eq!(ask(&mut link, &[1, 3, 0, 0, 0, 19]), (0, expected.clone()));
+    assert_eq!(ask(&mut link, &[1, 3, 0, 0, 0, 20]), (0, expected.clone()));
     // Each part of the map holds the same registers.
-    for start in 0..19 {
-        for quantity in 1..=19 - start {
+    for start in 0..20 {
+        for quantity in 1..=20 - start {
             let mut part = vec![1, 3, 2 * quantity as u8];
             part.extend(&expected[3 + 2 * start..3 + 2 * (start + quantity)]);
             let body = [1, 3, 0, start as u8, 0, quantity as u8];

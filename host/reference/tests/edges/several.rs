@@ -5,7 +5,7 @@ use crate::*;
 use reference::modbus::with_crc;
 
 /// The writable registers that stand beside each other: the first, and how many.
-const RUNS: [(u16, usize); 4] = [(0x08, 1), (0x0B, 2), (0x0E, 1), (0x10, 3)];
+const RUNS: [(u16, usize); 4] = [(0x08, 1), (0x0B, 2), (0x0E, 1), (0x10, 4)];
 
 /// PB -1.50, PR 1.200 and F1 50 written together.
 const THREE: [u8; 13] = [
@@ -34,7 +34,7 @@ fn with_register(register: u16) -> Option<(usize, i16)> {
 fn good(start: u16, quantity: usize) -> Vec<i16> {
     let registers = (start..).take(quantity);
     registers
-        .map(|register| with_register(register).map_or(0, |(_, high)| high - register as i16))
+        .map(|register| with_register(register).map_or(0, |(_, high)| high - (register % 4) as i16))
         .collect()
 }
 
@@ -56,7 +56,10 @@ fn the_reply_repeats_start_and_quantity() {
     let mut link = Link::start();
     let reply = vec![1, 0x10, 0x00, 0x10, 0x00, 0x03];
     assert_eq!(ask(&mut link, &THREE), (0, reply));
-    assert_eq!(link.table, [0, 0, 0, 0, 0, 0, 500, 500, -150, 1200, 50, 0]);
+    assert_eq!(
+        link.table,
+        [0, 0, 0, 0, 0, 0, 500, 500, -150, 1200, 50, 0, 1]
+    );
     // 03H reads them back.
     let mut read = vec![1, 0x03];
     read.extend(&THREE[6..]);
@@ -91,7 +94,7 @@ fn a_register_that_is_not_writable_spoils_every_span_with_it() {
 
 #[test]
 fn there_are_no_registers_past_the_map() {
-    for start in [0x0110, 0x100B, 0x8008, 0xFF12] {
+    for start in [0x0110, 0x100B, 0x8008, 0xFF13] {
         exception(&several(start, &[0]), 2);
     }
     // The last is FFFFH in the first of each two, and past it in the second.
@@ -168,22 +171,25 @@ fn a_value_out_of_range_leaves_all_unwritten() {
     written(0x0B, &[9999, -1999]);
     written(0x0B, &[-1, 1]);
     written(0x0B, &[1, -1]);
-    written(0x10, &[-1000, 500, 0]);
-    written(0x10, &[1000, 1500, 100]);
+    written(0x10, &[-1000, 500, 0, 0]);
+    written(0x10, &[1000, 1500, 100, 3]);
     for values in [[-2000, 1], [10_000, 1], [1, -2000], [1, 10_000]] {
         exception(&several(0x0B, &values), 3);
     }
     for values in [
-        [-1001, 501, 1],
-        [1001, 501, 1],
-        [1, 499, 1],
-        [1, 1501, 1],
-        [1, 501, -1],
-        [1, 501, 101],
-        [1001, 499, 1],
-        [1001, 501, -1],
-        [1, 499, 101],
-        [1001, 1501, 101],
+        [-1001, 501, 1, 2],
+        [1001, 501, 1, 2],
+        [1, 499, 1, 2],
+        [1, 1501, 1, 2],
+        [1, 501, -1, 2],
+        [1, 501, 101, 2],
+        [1, 501, 1, -1],
+        [1, 501, 1, 4],
+        [1001, 499, 1, 2],
+        [1001, 501, -1, 2],
+        [1, 499, 101, 2],
+        [1, 501, 101, 4],
+        [1001, 1501, 101, 4],
     ] {
         exception(&several(0x10, &values), 3);
     }
@@ -200,11 +206,11 @@ fn any_register_not_writable_goes_before_any_value() {
     exception(&several(0x0E, &[10_000, 0, 1001]), 2);
     // ER, which is read-only, in front of TM.
     exception(&several(0x04, &[256, 0, 0, 0, 1000]), 2);
-    // F1 at the end of the map.
-    exception(&several(0x10, &[1001, 499, 101, 0]), 2);
-    exception(&several(0x12, &[101, 0]), 2);
+    // XU at the end of the map.
+    exception(&several(0x10, &[1001, 499, 101, 4, 0]), 2);
+    exception(&several(0x13, &[4, 0]), 2);
     // Values that no register takes do not matter where it is not writable.
-    exception(&several(0x00, &[i16::MIN; 19]), 2);
+    exception(&several(0x00, &[i16::MIN; 20]), 2);
     exception(&several(0xFFFF, &[i16::MAX; 2]), 2);
 }
 

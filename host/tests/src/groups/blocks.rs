@@ -2,19 +2,19 @@ use crate::compare::Compare;
 use crate::failure::Checked;
 use crate::instrument::Instrument;
 use crate::random::Random;
-use crate::shapes::{any_value, good_value, identifier};
-use reference::items::{with_id, ITEMS};
+use crate::shapes::{any_value, good_table, good_value, identifier};
+use reference::items::{decimals, with_id, ITEMS};
 use reference::line::{bcc, EOT, ETX, STX};
 use reference::number;
 
 /// Each item is set to each value of its range, and to the values beside it.
 pub fn every_value(compare: &mut Compare, random: &mut Random) -> Checked<()> {
-    for row in &ITEMS {
+    for (row, item) in ITEMS.iter().zip(1..) {
         for value in row.low - 1..=row.high + 1 {
-            let mut text = row.id.to_vec();
-            text.extend(written(random, row.decimals, value));
-            let check = bcc(&text) ^ ETX;
-            judged(compare, random, &text, check)?;
+            let table = good_table(random);
+            let number = written(random, decimals(&table, item), value);
+            let text = [&row.id[..], &number].concat();
+            compare.call(&mut Instrument::call_block(random, table, &text))?;
         }
     }
     Ok(())
@@ -24,8 +24,9 @@ pub fn every_value(compare: &mut Compare, random: &mut Random) -> Checked<()> {
 pub fn identifiers(compare: &mut Compare, random: &mut Random) -> Checked<()> {
     for first in 0..0x80 {
         for second in 0..0x80 {
+            let table = good_table(random);
             let text = [first, second, b'1'];
-            judged(compare, random, &text, bcc(&text) ^ ETX)?;
+            compare.call(&mut Instrument::call_block(random, table, &text))?;
         }
     }
     Ok(())
@@ -34,24 +35,19 @@ pub fn identifiers(compare: &mut Compare, random: &mut Random) -> Checked<()> {
 /// Blocks of any text with any BCC.
 pub fn any(compare: &mut Compare, random: &mut Random) -> Checked<()> {
     for _ in 0..100_000 {
-        let text = text(random);
+        let table = good_table(random);
+        let text = text(random, &table);
         let check = check_of(random, &text);
-        judged(compare, random, &text, check)?;
+        let mut instrument = Instrument::judging(random, table, &text);
+        let byte = instrument.sent(check);
+        instrument.byte(compare, random, byte)?;
     }
     Ok(())
 }
 
-/// A link that has taken in a text and its ETX receives a BCC.
-fn judged(compare: &mut Compare, random: &mut Random, text: &[u8], check: u8) -> Checked<()> {
-    let mut instrument = Instrument::judging(random, text);
-    let byte = instrument.sent(check);
-    instrument.byte(compare, random, byte)?;
-    Ok(())
-}
-
-/// STX, a text, ETX and a BCC.
-pub fn block(random: &mut Random) -> Vec<u8> {
-    let text = text(random);
+/// STX, a text for a link with this table, ETX and a BCC.
+pub fn block(random: &mut Random, table: &[i32]) -> Vec<u8> {
+    let text = text(random, table);
     let check = check_of(random, &text);
     let mut characters = vec![STX];
     characters.extend(text);
@@ -74,20 +70,20 @@ fn check_of(random: &mut Random, text: &[u8]) -> u8 {
 }
 
 /// The text of a block. Now and then one is looked for whose BCC is EOT.
-fn text(random: &mut Random) -> Vec<u8> {
+fn text(random: &mut Random, table: &[i32]) -> Vec<u8> {
     let tries = if random.one_in(4) { 50 } else { 1 };
-    let mut text = any_text(random);
+    let mut text = any_text(random, table);
     for _ in 1..tries {
         if bcc(&text) ^ ETX == EOT {
             break;
         }
-        text = any_text(random);
+        text = any_text(random, table);
     }
     text
 }
 
 /// An identifier with data of some kind, or less than that.
-fn any_text(random: &mut Random) -> Vec<u8> {
+fn any_text(random: &mut Random, table: &[i32]) -> Vec<u8> {
     if random.one_in(12) {
         return random.some_bytes(3).iter().map(|b| b & 0x7F).collect();
     }
@@ -96,7 +92,7 @@ fn any_text(random: &mut Random) -> Vec<u8> {
     match random.below(6) {
         0 => text.extend(symbols(random, 9)),
         1 => text.extend(symbols(random, 6)),
-        _ => text.extend(number_for(random, id)),
+        _ => text.extend(number_for(random, table, id)),
     }
     text
 }
@@ -109,14 +105,14 @@ fn symbols(random: &mut Random, most: usize) -> Vec<u8> {
         .collect()
 }
 
-/// A number in or around the range of the item with this identifier.
-fn number_for(random: &mut Random, id: [u8; 2]) -> Vec<u8> {
+/// A number in or around the range of the item with this identifier, with the item's decimals.
+fn number_for(random: &mut Random, table: &[i32], id: [u8; 2]) -> Vec<u8> {
     let item = with_id(&id).unwrap_or(1);
     let value = match random.below(3) {
         0 => any_value(random, item),
         _ => good_value(random, item),
     };
-    written(random, ITEMS[item - 1].decimals, value)
+    written(random, decimals(table, item), value)
 }
 
 /// A value as number text, often without its zeros on the left. One that does not fit is written

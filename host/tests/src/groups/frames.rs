@@ -20,15 +20,15 @@ const FUNCTIONS: [u8; 22] = [
 ];
 
 /// What stands in front of zeros, as far as a frame's length has room: nothing, words that make a
-/// good request of 8 bytes, or good writes of one register and of three.
+/// good request of 8 bytes, or good writes of one register and of four.
 const FRONTS: [&[u8]; 7] = [
     &[],
     &[0, 0, 0, 1],
-    &[0, 0, 0, 19],
-    &[0, 0x12, 0, 100],
+    &[0, 0, 0, 20],
+    &[0, 0x13, 0, 3],
     &[0, 0, 0x1F, 0x34],
-    &[0, 0x12, 0, 1, 2, 0, 100],
-    &[0, 0x10, 0, 3, 6, 0xFF, 0x6A, 0x03, 0xE8, 0, 100],
+    &[0, 0x13, 0, 1, 2, 0, 3],
+    &[0, 0x10, 0, 4, 8, 0xFF, 0x6A, 0x03, 0xE8, 0, 100, 0, 3],
 ];
 
 /// Every length that a frame can have, and those beside, in every function.
@@ -57,7 +57,7 @@ pub fn every_word(compare: &mut Compare, random: &mut Random) -> Checked<()> {
         handed(compare, random, 1, words(1, LOOPBACK, 0, word))?;
         handed(compare, random, 1, several::right(1, word, &[0]))?;
         handed(compare, random, 1, several::request(1, 8, word, 2, &[0, 0]))?;
-        for (start, quantity) in [(0x0B, 2), (0x10, 3)] {
+        for (start, quantity) in [(0x0B, 2), (0x10, 4)] {
             let mut values = several::good(random, start, quantity);
             values[random.below(quantity)] = word;
             handed(compare, random, 1, several::right(1, start, &values))?;
@@ -90,7 +90,7 @@ pub fn every_value_written(compare: &mut Compare, random: &mut Random) -> Checke
             handed(compare, random, 1, words(1, WRITE, *register, value))?;
         }
     }
-    for register in (0..=20).filter(|register| !writable.contains(register)) {
+    for register in (0..=21).filter(|register| !writable.contains(register)) {
         for value in (0..=300).chain([1000, 0x7FFF, 0x8000, 0xFC18, 0xFFFF]) {
             handed(compare, random, 1, words(1, WRITE, register, value))?;
         }

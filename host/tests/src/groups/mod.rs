@@ -13,7 +13,9 @@ mod modbus_sessions;
 mod noise;
 mod number_text;
 mod order;
+mod outcome;
 mod phases;
+mod point;
 mod polling_on;
 mod polls;
 mod put;
@@ -22,10 +24,10 @@ mod sessions;
 mod several;
 mod start;
 
-use crate::call::Call;
 use crate::compare::Compare;
-use crate::failure::{Checked, Failure};
+use crate::failure::Checked;
 use crate::random::Random;
+use outcome::gives;
 
 type Calls = fn(&mut Compare, &mut Random) -> Checked<()>;
 
@@ -50,6 +52,7 @@ const GROUPS: &[(&str, Calls)] = &[
     ("alarm states that disagree", alarms::disagreeing),
     ("alarm states put by the firmware", alarms::put),
     ("alarm states written by each line", alarms::written),
+    ("tables with another XU or length", point::tables),
     ("link states outside their limits", limits::states),
     ("every identifier polled", polls::identifiers),
     ("every identifier in a block", blocks::identifiers),
@@ -69,6 +72,12 @@ const GROUPS: &[(&str, Calls)] = &[
     ("frames of every kind and length", requests::every),
     ("alarm levels set around M1", alarms::levels),
     ("M1 put around the alarm levels", alarms::measured),
+    ("XU set by whoever can", point::set),
+    ("what XU does not take", point::refused),
+    ("every span read at each XU", point::read),
+    ("registers written at each XU", point::written),
+    ("edges of number text at each XU", point::edges),
+    ("runs over the list at each XU", point::runs),
     ("every character in every place", ascii::every_character),
     ("two characters of a line", ascii::two_characters),
     ("bits of a line flipped", ascii::bits),
@@ -112,6 +121,7 @@ const GROUPS: &[(&str, Calls)] = &[
     ("edges of number text written", number_text::edges_written),
     ("characters of number text read", number_text::characters),
     ("number text read", number_text::read),
+    ("every value sent and told at each XU", point::every_value),
     ("every value of every item sent", polls::every_value),
     ("every value of every item set", blocks::every_value),
     ("every value of every item put", put::every_value),
@@ -127,6 +137,7 @@ const GROUPS: &[(&str, Calls)] = &[
     ("sessions on the RTU line", modbus_sessions::whole),
     ("sessions on both Modbus lines", ascii::sessions),
     ("sessions on all lines", alarms::sessions),
+    ("sessions in which XU changes", point::sessions),
     ("any line", ascii::any),
     ("sessions played back", captures::sessions),
     ("any capture", captures::any),
@@ -179,16 +190,4 @@ fn run(
         told(name, compare.calls() - before)?;
     }
     Ok(())
-}
-
-/// Makes a call that must give this number, and hands back what it leaves.
-fn gives(compare: &mut Compare, mut call: Call, number: u32) -> Checked<Call> {
-    let before = call.clone();
-    let given = compare.call(&mut call)? % 256;
-    if given == number {
-        return Ok(call);
-    }
-    Err(Failure::wrong(format!(
-        "number {number} is due, {given} was given\n{before}"
-    )))
 }

@@ -67,7 +67,7 @@ pub fn well_lent(compare: &mut Compare, random: &mut Random) -> Checked<()> {
             structure: random.below(3) as u8,
             byte: random.byte(),
             now: random.word(),
-            item: random.below(14) as u32,
+            item: random.below(15) as u32,
             frame: random.below(5) as u32,
             value: random.between(-2100, 10_100),
             state: bad_state(random),

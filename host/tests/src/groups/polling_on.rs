@@ -4,7 +4,7 @@ use crate::compare::Compare;
 use crate::failure::Checked;
 use crate::instrument::Instrument;
 use crate::random::Random;
-use crate::shapes::{good_state, WAITING};
+use crate::shapes::{any_item, good_state, WAITING};
 use reference::items::ITEMS;
 use reference::line::ENQ;
 
@@ -18,7 +18,7 @@ const UNKNOWN: [[u8; 2]; 8] = [
 /// follow. Behind an unknown one they meet a link at rest.
 pub fn whole(compare: &mut Compare, random: &mut Random) -> Checked<()> {
     let identifiers: Vec<[u8; 2]> = ITEMS.iter().map(|row| row.id).chain(UNKNOWN).collect();
-    for item in 1..=12 {
+    for item in 1..=13 {
         for structure in 0..=2 {
             for id in &identifiers {
                 let mut instrument = behind(random, item, structure);
@@ -35,12 +35,12 @@ pub fn whole(compare: &mut Compare, random: &mut Random) -> Checked<()> {
 
 /// Behind each item, in each structure, every byte in the place of each of the three characters.
 pub fn every_byte(compare: &mut Compare, random: &mut Random) -> Checked<()> {
-    for item in 1..=12 {
+    for item in 1..=13 {
         for structure in 0..=2 {
             for byte in 0..=255 {
                 for place in 0..3 {
                     let mut instrument = behind(random, item, structure);
-                    let id = ITEMS[random.below(12)].id;
+                    let id = ITEMS[any_item(random) - 1].id;
                     for character in &id[..place] {
                         let before = instrument.sent(*character);
                         instrument.byte(compare, random, before)?;

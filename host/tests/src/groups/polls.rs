@@ -59,13 +59,7 @@ pub fn runs(compare: &mut Compare, random: &mut Random) -> Checked<()> {
     for _ in 0..100 {
         for row in &ITEMS {
             let mut instrument = Instrument::any(random);
-            let mut poll = Instrument::calling(instrument.address);
-            poll.extend(row.id);
-            poll.push(ENQ);
-            for character in poll {
-                let byte = instrument.sent(character);
-                instrument.byte(compare, random, byte)?;
-            }
+            instrument.poll(compare, random, row.id)?;
             while instrument.state[0] == WAITING {
                 let answer = instrument.sent(random.pick(&[ACK, ACK, NAK]));
                 instrument.byte(compare, random, answer)?;

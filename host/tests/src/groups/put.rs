@@ -2,7 +2,7 @@ use crate::call::{Call, Function};
 use crate::compare::Compare;
 use crate::failure::Checked;
 use crate::random::Random;
-use crate::shapes::{any_value, bad_table, good_table, good_value};
+use crate::shapes::{any_item, any_value, bad_table, good_table, good_value};
 use reference::items::ITEMS;
 
 /// Each item is put to each value of its range, and to the values beside it.
@@ -26,7 +26,7 @@ pub fn item_numbers(compare: &mut Compare, random: &mut Random) -> Checked<()> {
     for item in (0..16).chain(with_a_bit) {
         compare.call(&mut Call {
             item,
-            value: good_value(random, (item % 12) as usize + 1),
+            value: good_value(random, (item % 13) as usize + 1),
             table: good_table(random),
             ..Call::new(Function::Put)
         })?;
@@ -38,10 +38,10 @@ pub fn item_numbers(compare: &mut Compare, random: &mut Random) -> Checked<()> {
 /// tables of which some have a bad entry already.
 pub fn any(compare: &mut Compare, random: &mut Random) -> Checked<()> {
     for _ in 0..50_000 {
-        let item = random.below(12) + 1;
+        let item = any_item(random);
         compare.call(&mut Call {
             item: match random.below(8) {
-                0 => random.pick(&[0, 13, 255, 256, 257, 1 << 31, u32::MAX]),
+                0 => random.pick(&[0, 14, 255, 256, 257, 1 << 31, u32::MAX]),
                 1 => random.word(),
                 _ => item as u32,
             },

@@ -3,7 +3,8 @@ use crate::call::{Call, Function};
 use crate::compare::Compare;
 use crate::failure::Checked;
 use crate::random::Random;
-use crate::shapes::{any_value, good_table, pattern};
+use crate::shapes::{any_item, any_value, good_table, pattern};
+use reference::ascii::line_of;
 use reference::items::ITEMS;
 use reference::modbus::with_crc;
 
@@ -38,11 +39,17 @@ pub fn handed_with(
     ascii::by_both(compare, call)
 }
 
-/// Makes a call of either Modbus line. Number and reply.
-pub fn heard(compare: &mut Compare, call: &mut Call) -> Checked<(u32, Vec<u8>)> {
-    let result = compare.call(call)?;
-    let reply = call.reply[..(result / 256) as usize].to_vec();
-    Ok((result % 256, reply))
+/// The calls that hand a right frame, and its message as a line, to an instrument at address 1 with
+/// this table.
+pub fn on_both_lines(random: &mut Random, table: &[i32], frame: Vec<u8>) -> [Call; 2] {
+    let line = line_of(frame[..frame.len() - 2].to_vec());
+    [(Function::Rtu, frame), (Function::Ascii, line)].map(|(function, input)| Call {
+        address: 1,
+        table: table.to_vec(),
+        reply: pattern(random, 256),
+        input,
+        ..Call::new(function)
+    })
 }
 
 /// A frame of address, function and two words, with its CRC.
@@ -68,8 +75,8 @@ pub fn functions(compare: &mut Compare, random: &mut Random) -> Checked<()> {
 
 /// Every span in and around the map, and quantities at both ends of what is allowed.
 fn reads(compare: &mut Compare, random: &mut Random) -> Checked<()> {
-    for start in (0..=21).chain([0x00FF, 0x0100, 0x7FFF, 0x8000, 0xFFEC, 0xFFED, 0xFFFF]) {
-        for quantity in (0..=21).chain([124, 125, 126, 127, 255, 256, 257, 0x8000, 0xFFFF]) {
+    for start in (0..=22).chain([0x00FF, 0x0100, 0x7FFF, 0x8000, 0xFFEB, 0xFFEC, 0xFFFF]) {
+        for quantity in (0..=22).chain([124, 125, 126, 127, 255, 256, 257, 0x8000, 0xFFFF]) {
             handed(compare, random, 1, words(1, 0x03, start, quantity))?;
         }
     }
@@ -79,9 +86,9 @@ fn reads(compare: &mut Compare, random: &mut Random) -> Checked<()> {
 /// Every register in and around the map, with values in and beside the range of its item.
 fn writes(compare: &mut Compare, random: &mut Random) -> Checked<()> {
     for _ in 0..20_000 {
-        let item = random.below(12) + 1;
+        let item = any_item(random);
         let register = match random.below(8) {
-            0 => random.below(22) as u16,
+            0 => random.below(23) as u16,
             1 => random.word() as u16,
             _ => ITEMS[item - 1].register,
         };
@@ -108,7 +115,7 @@ pub fn every(compare: &mut Compare, random: &mut Random) -> Checked<()> {
     }
     for address in 0..=255 {
         for ours in [1, 98, 99] {
-            handed(compare, random, ours, words(address, 0x03, 0, 19))?;
+            handed(compare, random, ours, words(address, 0x03, 0, 20))?;
         }
     }
     for _ in 0..30_000 {
@@ -131,8 +138,8 @@ fn long(random: &mut Random, length: usize, function: u8) -> Vec<u8> {
 /// A good request with something that has happened to it.
 fn mutated(random: &mut Random) -> Vec<u8> {
     let function = random.pick(&[0x03, 0x06, 0x08]);
-    let start = random.below(20) as u16;
-    let good = words(1, function, start, random.below(20) as u16);
+    let start = random.below(21) as u16;
+    let good = words(1, function, start, random.below(21) as u16);
     spoiled(random, good)
 }
 

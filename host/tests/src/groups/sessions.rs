@@ -52,7 +52,7 @@ fn sessions(compare: &mut Compare, random: &mut Random, line: Line) -> Checked<(
     for _ in 0..1500 {
         let mut instrument = Instrument::any(random);
         for _ in 0..30 {
-            let characters = moved(random, instrument.address);
+            let characters = moved(random, &instrument);
             for byte in line(&instrument, &characters, random) {
                 instrument.byte(compare, random, byte)?;
                 let pause = random.pick(&[0, 1, 1, 20, 20, 20, 2999, 3000, 1 << 31]);
@@ -67,12 +67,12 @@ fn sessions(compare: &mut Compare, random: &mut Random, line: Line) -> Checked<(
 }
 
 /// The characters of one move of the host.
-fn moved(random: &mut Random, address: u8) -> Vec<u8> {
+fn moved(random: &mut Random, instrument: &Instrument) -> Vec<u8> {
     match random.below(12) {
-        0..=2 => poll(random, address),
+        0..=2 => poll(random, instrument.address),
         3..=4 => polled_on(random),
         5..=7 => answers(random),
-        8..=10 => selected(random, address),
+        8..=10 => selected(random, instrument),
         _ => vec![random.pick(&[EOT, STX, ETX, ENQ, ACK, NAK, b'0', 0x7F, 0])],
     }
 }
@@ -122,12 +122,12 @@ fn answers(random: &mut Random) -> Vec<u8> {
 }
 
 /// A block, or a second one behind an answer, which needs no address.
-fn selected(random: &mut Random, address: u8) -> Vec<u8> {
+fn selected(random: &mut Random, instrument: &Instrument) -> Vec<u8> {
     let mut characters = if random.one_in(4) {
         vec![]
     } else {
-        called(random, address)
+        called(random, instrument.address)
     };
-    characters.extend(block(random));
+    characters.extend(block(random, &instrument.table));
     characters
 }

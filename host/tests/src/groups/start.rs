@@ -4,7 +4,7 @@ use crate::failure::Checked;
 use crate::random::Random;
 use crate::shapes::pattern;
 
-/// Twelve entries and 24 bytes are started; all other lengths are refused and left.
+/// Thirteen entries and 24 bytes are started; all other lengths are refused and left.
 pub fn lengths(compare: &mut Compare, random: &mut Random) -> Checked<()> {
     for length in 0..=64 {
         compare.call(&mut Call {

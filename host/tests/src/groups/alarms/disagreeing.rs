@@ -1,15 +1,13 @@
 //! Tables whose alarm states are not true.
 
-use super::{around, refused, with, HIGH, LOW};
-use crate::call::{Call, Function};
+use super::{around, level_text, with, A1, A2, HIGH, LOW};
+use crate::call::Call;
 use crate::compare::Compare;
 use crate::failure::Checked;
-use crate::groups::limits::{good, WITH_TABLE};
-use crate::groups::{captures, gives};
+use crate::groups::gives;
+use crate::groups::limits::{good, not_looked_at, noticed, WITH_TABLE};
 use crate::instrument::Instrument;
 use crate::random::Random;
-use crate::shapes::{pattern, ADDRESSES, REPLY_LENGTHS, STRUCTURES};
-use reference::line::{bcc, ETX};
 
 /// Where M1, A1 and A2 stand close to each other.
 const LEVELS: [i32; 9] = [LOW, -256, -150, -1, 0, 1, 500, 4096, HIGH];
@@ -44,7 +42,8 @@ fn pairs(compare: &mut Compare, random: &mut Random, three: [i32; 3]) -> Checked
             if table == right {
                 accepted(compare, random, &table)?;
             } else {
-                noticed(compare, random, &table)?;
+                noticed(compare, random, &table, 2)?;
+                block(compare, random, &table, 2)?;
                 not_looked_at(compare, random, &table)?;
             }
         }
@@ -63,49 +62,11 @@ fn accepted(compare: &mut Compare, random: &mut Random, table: &[i32]) -> Checke
     block(compare, random, table, 0)
 }
 
-/// The calls that look at a table refuse this one before they look at anything else, and leave it.
-fn noticed(compare: &mut Compare, random: &mut Random, table: &[i32]) -> Checked<()> {
-    for function in WITH_TABLE {
-        let mut call = Call {
-            table: table.to_vec(),
-            ..good(random, function)
-        };
-        call.value = random.between(-1, 2);
-        refused(compare, call.clone(), 2)?;
-        // The same with what would be refused behind it.
-        call.address = random.pick(&ADDRESSES);
-        call.structure = random.pick(&STRUCTURES);
-        call.item = random.pick(&[0, 1, 2, 3, 7, 8, 13]);
-        let length = random.pick(&REPLY_LENGTHS);
-        call.reply = pattern(random, length);
-        call.state = random.some_bytes(30);
-        refused(compare, call, 2)?;
-    }
-    block(compare, random, table, 2)
-}
-
 /// A block for a level at an end of its range.
 fn block(compare: &mut Compare, random: &mut Random, table: &[i32], number: u32) -> Checked<()> {
-    let text: &[u8] = random.pick(&[b"A1-199.9", b"A1999.9", b"A2-199.9", b"A2999.9"]);
-    let mut instrument = Instrument::judging(random, text);
-    instrument.table = table.to_vec();
-    let byte = instrument.sent(bcc(text) ^ ETX);
-    gives(compare, instrument.call_byte(random, byte), number)?;
-    Ok(())
-}
-
-/// For a start and a playback the table is only where theirs goes.
-fn not_looked_at(compare: &mut Compare, random: &mut Random, table: &[i32]) -> Checked<()> {
-    let started = Call {
-        table: table.to_vec(),
-        ..Call::new(Function::StartTable)
-    };
-    gives(compare, started, 0)?;
-    let capture = captures::Parts::of(&captures::good(random, 2)).capture();
-    let played = Call {
-        table: table.to_vec(),
-        ..captures::playback(random, capture)
-    };
-    gives(compare, played, 0)?;
+    let (level_item, level) = (random.pick(&[A1, A2]), random.pick(&[LOW, HIGH]));
+    let text = level_text(table, level_item, level);
+    let call = Instrument::call_block(random, table.to_vec(), &text);
+    gives(compare, call, number)?;
     Ok(())
 }

@@ -1,18 +1,15 @@
 //! M1 and the levels of the alarms, each one step below the other, at it and above it.
 
-use super::{around, sets, with, with_measured, A1, A2, HIGH, LOW, M1};
+use super::{around, level_text, with, with_measured, A1, A2, HIGH, LOW, M1};
 use crate::call::{Call, Function};
 use crate::compare::Compare;
 use crate::failure::Checked;
-use crate::groups::requests::words;
+use crate::groups::outcome::sets;
+use crate::groups::requests::{on_both_lines, words};
 use crate::groups::several;
 use crate::instrument::Instrument;
 use crate::random::Random;
-use crate::shapes::pattern;
-use reference::ascii::line_of;
 use reference::items::item;
-use reference::line::{bcc, ETX};
-use reference::number;
 
 /// Values around 0, around the ends of the range and around powers of 2, and some of the whole range.
 fn values() -> impl Iterator<Item = i32> {
@@ -58,12 +55,9 @@ fn by_block(
     level_item: usize,
     level: i32,
 ) -> Checked<()> {
-    let six = number::write(1, level).expect("every level fits");
-    let text = [&item(level_item).id[..], &six].concat();
-    let mut instrument = Instrument::judging(random, &text);
-    instrument.table = with_measured(random, m1);
-    let byte = instrument.sent(bcc(&text) ^ ETX);
-    let call = instrument.call_byte(random, byte);
+    let table = with_measured(random, m1);
+    let text = level_text(&table, level_item, level);
+    let call = Instrument::call_block(random, table, &text);
     sets(compare, call, &[(level_item, level)])
 }
 
@@ -79,34 +73,28 @@ fn by_frames(
     let register = item(level_item).register;
     let alone = [(level_item, level)];
     let frame = words(1, 0x06, register, level as u16);
-    on_both_lines(compare, random, m1, frame, &alone)?;
+    by_frame(compare, random, m1, frame, &alone)?;
     let frame = several::right(1, register, &[level as u16]);
-    on_both_lines(compare, random, m1, frame, &alone)?;
+    by_frame(compare, random, m1, frame, &alone)?;
     if level_item == A1 {
         // S1 stands in front of A1.
         let s1 = random.between(LOW, HIGH);
         let frame = several::right(1, register - 1, &[s1 as u16, level as u16]);
-        on_both_lines(compare, random, m1, frame, &[(6, s1), (A1, level)])?;
+        by_frame(compare, random, m1, frame, &[(6, s1), (A1, level)])?;
     }
     Ok(())
 }
 
-fn on_both_lines(
+/// A frame that writes these items, on both lines.
+fn by_frame(
     compare: &mut Compare,
     random: &mut Random,
     m1: i32,
     frame: Vec<u8>,
     written: &[(usize, i32)],
 ) -> Checked<()> {
-    let line = line_of(frame[..frame.len() - 2].to_vec());
-    for (function, input) in [(Function::Rtu, frame), (Function::Ascii, line)] {
-        let call = Call {
-            address: 1,
-            table: with_measured(random, m1),
-            reply: pattern(random, 256),
-            input,
-            ..Call::new(function)
-        };
+    let table = with_measured(random, m1);
+    for call in on_both_lines(random, &table, frame) {
         sets(compare, call, written)?;
     }
     Ok(())

@@ -15,12 +15,10 @@ pub use played::played;
 pub use sessions::sessions;
 pub use states::{put, written};
 
-use super::gives;
-use crate::call::Call;
-use crate::compare::Compare;
-use crate::failure::{Checked, Failure};
 use crate::random::Random;
 use crate::shapes::{agree, good_table};
+use reference::items::{decimals, item};
+use reference::number;
 
 /// The items that alarm states follow, by their numbers.
 const M1: usize = 1;
@@ -55,36 +53,8 @@ fn with_measured(random: &mut Random, m1: i32) -> Vec<i32> {
     with(random, [m1, a1, a2])
 }
 
-/// Makes a call that is accepted, and must leave the table with these items set and the alarm states
-/// that are true then.
-fn sets(compare: &mut Compare, call: Call, items: &[(usize, i32)]) -> Checked<()> {
-    let mut due = call.table.clone();
-    for (item, value) in items {
-        due[item - 1] = *value;
-    }
-    agree(&mut due);
-    leaves(compare, call, &due)
-}
-
-/// Makes a call that is accepted, and must leave this table.
-fn leaves(compare: &mut Compare, call: Call, due: &[i32]) -> Checked<()> {
-    let before = call.clone();
-    let left = gives(compare, call, 0)?.table;
-    if left == due {
-        return Ok(());
-    }
-    Err(Failure::wrong(format!(
-        "{due:?} is due, {left:?} was left\n{before}"
-    )))
-}
-
-/// Makes a call that is refused with this number, and must leave all as it came.
-fn refused(compare: &mut Compare, call: Call, number: u32) -> Checked<()> {
-    let before = call.clone();
-    if gives(compare, call, number)? == before {
-        return Ok(());
-    }
-    Err(Failure::wrong(format!(
-        "it is refused and has left something\n{before}"
-    )))
+/// The text of a block that brings a level, with the decimals that it has in this table.
+fn level_text(table: &[i32], level_item: usize, level: i32) -> Vec<u8> {
+    let six = number::write(decimals(table, level_item), level).expect("every level fits");
+    [&item(level_item).id[..], &six].concat()
 }

@@ -1,16 +1,17 @@
 //! Captures whose writes move the alarm states.
 
-use super::{leaves, A1, A2, HIGH, LOW};
+use super::{A1, A2, HIGH, LOW};
 use crate::call::Call;
 use crate::compare::Compare;
 use crate::failure::Checked;
 use crate::groups::captures::playback;
-use crate::groups::last_write::{all_items, parts, Recorded};
+use crate::groups::last_write::{all_items, left_by, parts, Recorded};
+use crate::groups::outcome::leaves;
 use crate::groups::requests::words;
 use crate::groups::several;
 use crate::random::Random;
-use crate::shapes::{agree, disagree, good_table};
-use reference::items::{item, ITEMS};
+use crate::shapes::{disagree, good_table};
+use reference::items::item;
 
 /// A level that is written, or a frame that leaves the table.
 type Step = Option<(usize, i32)>;
@@ -44,11 +45,7 @@ pub fn played(compare: &mut Compare, random: &mut Random) -> Checked<()> {
 /// and AB.
 fn one(compare: &mut Compare, random: &mut Random, steps: &[Step]) -> Checked<()> {
     let frames: Vec<Recorded> = steps.iter().map(|step| recorded(random, *step)).collect();
-    let mut due: Vec<i32> = ITEMS.iter().map(|row| row.start).collect();
-    for (item, value) in frames.iter().flat_map(|frame| &frame.writes) {
-        due[*item as usize - 1] = *value;
-    }
-    agree(&mut due);
+    let due = left_by(&frames);
     let call = Call {
         table: lent(random, &due),
         ..playback(random, parts(&frames).capture())
@@ -98,7 +95,7 @@ fn lent(random: &mut Random, due: &[i32]) -> Vec<i32> {
         0 => due.to_vec(),
         1 => return good_table(random),
         2 => good_table(random),
-        _ => return (0..12).map(|_| random.word() as i32).collect(),
+        _ => return (0..13).map(|_| random.word() as i32).collect(),
     };
     disagree(&mut table, random);
     table

@@ -1,17 +1,16 @@
 //! Alarm states that somebody wants to set: nobody can.
 
-use super::{around, refused, with, HIGH, LOW};
+use super::{around, with, HIGH, LOW};
 use crate::call::{Call, Function};
 use crate::compare::Compare;
-use crate::failure::{Checked, Failure};
-use crate::groups::requests::words;
-use crate::groups::{gives, several};
+use crate::failure::Checked;
+use crate::groups::outcome::{leaves_table, refused};
+use crate::groups::requests::{on_both_lines, words};
+use crate::groups::several;
 use crate::instrument::Instrument;
 use crate::random::Random;
-use crate::shapes::{disagree, pattern, set};
-use reference::ascii::line_of;
+use crate::shapes::{any_item, disagree, set};
 use reference::items::ITEMS;
-use reference::line::{bcc, ETX};
 
 /// Good tables with M1 at and around its levels.
 fn good_tables(random: &mut Random) -> Vec<Vec<i32>> {
@@ -42,12 +41,12 @@ pub fn put(compare: &mut Compare, random: &mut Random) -> Checked<()> {
 fn tables(random: &mut Random, good: &[i32]) -> Vec<(Vec<i32>, u32)> {
     let [mut disagreeing, mut outside] = [good.to_vec(), good.to_vec()];
     disagree(&mut disagreeing, random);
-    let item = 1 + random.below(12);
+    let item = any_item(random);
     let row = &ITEMS[item - 1];
     let entry = random.pick(&[row.low - 1, row.high + 1]);
     set(&mut outside, item, entry);
     let mut tables = vec![(good.to_vec(), 0), (disagreeing, 2), (outside, 2)];
-    for length in [0, 1, 2, 3, 11, 13] {
+    for length in [0, 1, 2, 3, 12, 14] {
         let mut other = good.to_vec();
         other.resize(length, 0);
         tables.push((other, 1));
@@ -59,7 +58,7 @@ fn tables(random: &mut Random, good: &[i32]) -> Vec<(Vec<i32>, u32)> {
 fn all(compare: &mut Compare, random: &mut Random, table: &[i32], fault: u32) -> Checked<()> {
     let any = random.word() as i32;
     for value in [-1, 0, 1, 2, 256, i32::MIN, i32::MAX, any] {
-        for (item, number) in [(2, 7), (3, 7), (0, 6), (13, 6), (258, 6), (1 << 31 | 3, 6)] {
+        for (item, number) in [(2, 7), (3, 7), (0, 6), (14, 6), (258, 6), (1 << 31 | 3, 6)] {
             let call = Call {
                 item,
                 value,
@@ -93,7 +92,9 @@ pub fn written(compare: &mut Compare, random: &mut Random) -> Checked<()> {
             }
         }
         for frame in frames(&table) {
-            on_both_lines(compare, random, &table, frame)?;
+            for call in on_both_lines(random, &table, frame) {
+                leaves_table(compare, call, 32)?;
+            }
         }
     }
     Ok(())
@@ -106,10 +107,8 @@ fn by_block(
     text: &str,
     number: u32,
 ) -> Checked<()> {
-    let mut instrument = Instrument::judging(random, text.as_bytes());
-    instrument.table = table.to_vec();
-    let byte = instrument.sent(bcc(text.as_bytes()) ^ ETX);
-    leaves_table(compare, instrument.call_byte(random, byte), number)
+    let call = Instrument::call_block(random, table.to_vec(), text.as_bytes());
+    leaves_table(compare, call, number)
 }
 
 /// Writes of 0001H and 0002H: each by 06H and by 10H with each value of its range and beside it, both
@@ -130,35 +129,4 @@ fn frames(table: &[i32]) -> Vec<Vec<u8>> {
         frames.push(several::right(1, start as u16, &all[start..end]));
     }
     frames
-}
-
-fn on_both_lines(
-    compare: &mut Compare,
-    random: &mut Random,
-    table: &[i32],
-    frame: Vec<u8>,
-) -> Checked<()> {
-    let line = line_of(frame[..frame.len() - 2].to_vec());
-    for (function, input) in [(Function::Rtu, frame), (Function::Ascii, line)] {
-        let call = Call {
-            address: 1,
-            table: table.to_vec(),
-            reply: pattern(random, 256),
-            input,
-            ..Call::new(function)
-        };
-        leaves_table(compare, call, 32)?;
-    }
-    Ok(())
-}
-
-/// Makes a call that is answered with this number, and must leave the table.
-fn leaves_table(compare: &mut Compare, call: Call, number: u32) -> Checked<()> {
-    let before = call.clone();
-    if gives(compare, call, number)?.table == before.table {
-        return Ok(());
-    }
-    Err(Failure::wrong(format!(
-        "it is refused and has written\n{before}"
-    )))
 }

@@ -12,7 +12,7 @@ pub fn numbers(compare: &mut Compare, random: &mut Random) -> Checked<()> {
     for length in 0..=600 {
         for function in [0x03, 0x06, 0x07, 0x08, 0x10, 0x80] {
             for address in [1, 2] {
-                let mut message = vec![address, function, 0, 0x12, 0, 1, 2, 0, 100];
+                let mut message = vec![address, function, 0, 0x13, 0, 1, 2, 0, 3];
                 message.resize(length, 0);
                 handed(compare, random, 1, line_of(message.clone()))?;
                 message.push(random.byte());

@@ -18,7 +18,7 @@ pub use lengths::{characters, numbers};
 pub use lent::{addresses, lent};
 pub use sessions::whole as sessions;
 
-use super::requests::{heard, words};
+use super::requests::words;
 use super::several;
 use crate::call::{Call, Function};
 use crate::compare::Compare;
@@ -45,11 +45,11 @@ fn handed(compare: &mut Compare, random: &mut Random, address: u8, line: Vec<u8>
 /// the loopbacks each hexadecimal character stands once in each half of a byte.
 fn messages(random: &mut Random, address: u8) -> Vec<Vec<u8>> {
     let mut frames = vec![
-        words(address, 0x03, 0, 19),
-        words(address, 0x03, 0x13, 1),
+        words(address, 0x03, 0, 20),
+        words(address, 0x03, 0x14, 1),
         words(address, 0x06, 0x10, 0xFF6A),
         several::accepted(random, address),
-        several::right(address, 0x10, &[0xFF6A, 0x03E8, 0x0064]),
+        several::right(address, 0x10, &[0xFF6A, 0x03E8, 0x0064, 0x0003]),
         with_crc(vec![address, 0x07]),
     ];
     for word in [
@@ -85,7 +85,7 @@ fn as_line((number, reply): (u32, Vec<u8>)) -> (u32, Vec<u8>) {
 /// line. Both must leave the same table, and give the same number and message.
 pub fn by_both(compare: &mut Compare, mut frame: Call) -> Checked<()> {
     let before = frame.clone();
-    let due = as_line(heard(compare, &mut frame)?);
+    let due = as_line(compare.heard(&mut frame)?);
     let message = match message_of(&before.input) {
         Some(message) => message,
         None => return Ok(()),
@@ -95,7 +95,7 @@ pub fn by_both(compare: &mut Compare, mut frame: Call) -> Checked<()> {
         input: line_of(message),
         ..before
     };
-    if heard(compare, &mut line)? == due && line.table == frame.table {
+    if compare.heard(&mut line)? == due && line.table == frame.table {
         return Ok(());
     }
     Err(Failure::wrong(format!(

@@ -4,11 +4,11 @@ use super::{as_line, message_of, no_line};
 use crate::call::Function;
 use crate::compare::Compare;
 use crate::failure::{Checked, Failure};
-use crate::groups::modbus_sessions::Panel;
 use crate::groups::requests::{spoiled, words};
 use crate::groups::several;
+use crate::instrument::Instrument;
 use crate::random::Random;
-use crate::shapes::{any_value, good_table};
+use crate::shapes::{any_item, any_value};
 use reference::ascii::line_of;
 use reference::items::ITEMS;
 
@@ -16,17 +16,13 @@ use reference::items::ITEMS;
 /// them as frames alone.
 pub fn whole(compare: &mut Compare, random: &mut Random) -> Checked<()> {
     for _ in 0..1500 {
-        let address = random.between(1, 99) as u8;
-        let table = good_table(random);
+        let mixed = Instrument::on_all_lines(random);
         let mut panels = Panels {
-            mixed: Panel {
-                address,
-                table: table.clone(),
-            },
-            frames: Panel { address, table },
+            frames: mixed.clone(),
+            mixed,
         };
         for _ in 0..12 {
-            let frame = request(random, address);
+            let frame = request(random, panels.mixed.address);
             panels.hear(compare, random, frame)?;
         }
     }
@@ -35,10 +31,10 @@ pub fn whole(compare: &mut Compare, random: &mut Random) -> Checked<()> {
 
 /// A request of any kind in its frame, now and then one that is damaged.
 fn request(random: &mut Random, address: u8) -> Vec<u8> {
-    let item = random.below(12) + 1;
+    let item = any_item(random);
     let value = any_value(random, item) as u16;
     match random.below(5) {
-        0 => words(address, 0x03, 0, 19),
+        0 => words(address, 0x03, 0, 20),
         1 => several::any_request(random, address),
         2 => several::accepted(random, address),
         3 => {
@@ -50,8 +46,8 @@ fn request(random: &mut Random, address: u8) -> Vec<u8> {
 }
 
 struct Panels {
-    mixed: Panel,
-    frames: Panel,
+    mixed: Instrument,
+    frames: Instrument,
 }
 
 impl Panels {

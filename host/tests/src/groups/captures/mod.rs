@@ -31,7 +31,7 @@ use crate::random::Random;
 pub fn playback(random: &mut Random, capture: Vec<u8>) -> Call {
     Call {
         address: 1,
-        table: (0..12).map(|_| random.word() as i32).collect(),
+        table: (0..13).map(|_| random.word() as i32).collect(),
         input: capture,
         ..Call::new(Function::Playback)
     }

@@ -50,13 +50,13 @@ fn idle_frames(random: &mut Random) -> [Vec<u8>; 9] {
     [
         vec![1],
         random.bytes(256),
-        words(1, 0x03, 0, 19),
+        words(1, 0x03, 0, 20),
         words(1, 0x08, 0, 0x1F34),
         several::accepted(random, 2),
         damaged,
         with_crc(vec![1, 0x07]),
         words(1, 0x06, 0, 1),
-        words(1, 0x06, 0x12, 101),
+        words(1, 0x06, 0x13, 4),
     ]
 }
 
@@ -71,7 +71,7 @@ pub fn lent(compare: &mut Compare, random: &mut Random) -> Checked<()> {
                 table,
                 ..playback(random, capture)
             };
-            gives(compare, call, u32::from(length != 12))?;
+            gives(compare, call, u32::from(length != 13))?;
         }
     }
     for (place, row) in ITEMS.iter().enumerate() {

@@ -7,7 +7,7 @@ use crate::failure::{Checked, Failure};
 use crate::groups::requests::{spoiled, words};
 use crate::groups::{gives, several};
 use crate::random::Random;
-use crate::shapes::{any_value, pattern};
+use crate::shapes::{any_item, any_value, pattern};
 use reference::items::ITEMS;
 
 /// Sessions of any frames at any address.
@@ -70,7 +70,7 @@ pub fn session(
 pub fn any_frame(random: &mut Random, address: u8) -> Vec<u8> {
     let other = random.between(0, 100) as u8;
     let mut frame = match random.below(12) {
-        0 => words(address, 0x03, 0, 19),
+        0 => words(address, 0x03, 0, 20),
         1 => words(address, 0x08, 0, 0x1F34),
         2 => several::accepted(random, other),
         3 => several::any_request(random, address),
@@ -90,7 +90,7 @@ pub fn any_frame(random: &mut Random, address: u8) -> Vec<u8> {
 
 /// A 06H of any item's register, with values in and beside its range.
 fn single(random: &mut Random, address: u8) -> Vec<u8> {
-    let item = random.below(12) + 1;
+    let item = any_item(random);
     let value = any_value(random, item) as u16;
     words(address, 0x06, ITEMS[item - 1].register, value)
 }

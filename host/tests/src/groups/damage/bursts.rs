@@ -11,7 +11,7 @@ pub fn bursts(compare: &mut Compare, random: &mut Random) -> Checked<()> {
         let sent = Sent::any(random, length);
         bursts_in(compare, random, &sent, 12, 300)?;
     }
-    for (start, quantity) in [(0x08, 1), (0x0B, 2), (0x10, 3)] {
+    for (start, quantity) in [(0x08, 1), (0x0B, 2), (0x11, 3), (0x10, 4)] {
         let sent = Sent::several(random, start, quantity);
         bursts_in(compare, random, &sent, 6, 16)?;
     }

@@ -19,8 +19,8 @@ use reference::modbus::with_crc;
 struct Sent(Call);
 
 impl Sent {
-    /// A frame of any length. One of 8 bytes would be acted on, and so would many of 11, 13 and 15
-    /// bytes, which are writes of one register, two and three.
+    /// A frame of any length. One of 8 bytes would be acted on, and so would many of 11, 13, 15 and
+    /// 17 bytes, which are writes of one register up to four.
     fn any(random: &mut Random, length: usize) -> Sent {
         if length >= 11 && length % 2 == 1 && random.one_in(2) {
             let start = random.pick(&[0x08, 0x0B, 0x10]);
@@ -28,8 +28,8 @@ impl Sent {
         }
         let mut body = vec![1, random.pick(&[0x03, 0x06, 0x08])];
         match body[1] {
-            0x03 => body.extend([0, 0, 0, 19]),
-            0x06 => body.extend([0, 0x12, 0, random.below(101) as u8]),
+            0x03 => body.extend([0, 0, 0, 20]),
+            0x06 => body.extend([0, 0x13, 0, random.below(4) as u8]),
             _ => body.extend([0, 0, random.byte(), random.byte()]),
         }
         body.extend(random.bytes(length));

@@ -15,7 +15,7 @@ pub fn odd(compare: &mut Compare, random: &mut Random) -> Checked<()> {
         each_bit(compare, Sent::several(random, start, quantity))?;
     }
     for _ in 0..60_000 {
-        let length = random.pick(&[4, 5, 6, 7, 8, 8, 8, 11, 13, 15, 64, 255, 256]);
+        let length = random.pick(&[4, 5, 6, 7, 8, 8, 8, 11, 13, 15, 17, 64, 255, 256]);
         let sent = Sent::any(random, length);
         let number = 2 * random.below(16) + 1;
         sent.flipped(compare, &different(random, number, sent.bits()))?;

@@ -38,7 +38,7 @@ pub fn any(compare: &mut Compare, random: &mut Random) -> Checked<()> {
     for _ in 0..20_000 {
         let capture = any_capture(random);
         for _ in 0..3 {
-            let item = random.below(14) as u32;
+            let item = random.below(15) as u32;
             let address = random.pick(&[1, 1, 1, 1, 1, 1, 2, 99, 0, 100]);
             compare.call(&mut Call {
                 address,

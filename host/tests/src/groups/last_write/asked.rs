@@ -12,10 +12,10 @@ pub fn item_numbers(compare: &mut Compare, random: &mut Random) -> Checked<()> {
     for _ in 0..10 {
         let recorded = some(random, 6);
         let capture = parts(&recorded).capture();
-        let high = (4..32).flat_map(|bit| (0..=13).map(move |low| 1 << bit | low));
-        let turned = (0..=13).map(|low| 0_u32.wrapping_sub(low));
+        let high = (4..32).flat_map(|bit| (0..=14).map(move |low| 1 << bit | low));
+        let turned = (0..=14).map(|low| 0_u32.wrapping_sub(low));
         for item in (0..=20).chain(high).chain(turned) {
-            let told = if (1..=12).contains(&item) {
+            let told = if (1..=13).contains(&item) {
                 due(&recorded, item)
             } else {
                 Told::Refused(6)
@@ -43,7 +43,7 @@ pub fn addresses(compare: &mut Compare, random: &mut Random) -> Checked<()> {
                 }
             })
             .collect();
-        for item in 1..=12 {
+        for item in 1..=13 {
             let call = Call {
                 address,
                 ..asking(random, parts(&recorded).capture(), item)

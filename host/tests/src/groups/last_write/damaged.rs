@@ -3,6 +3,7 @@ use crate::compare::Compare;
 use crate::failure::Checked;
 use crate::groups::captures::{cut_and_doubled, flipped};
 use crate::random::Random;
+use crate::shapes::any_item;
 
 /// Short captures with each byte changed to each value, each one lost and each one doubled, and cut
 /// off before each place and behind it. Long ones with some bits flipped in any places.
@@ -28,10 +29,10 @@ fn each_value(compare: &mut Compare, random: &mut Random, recorded: &[Recorded])
     let whole = parts(recorded).capture();
     for (place, byte) in whole.into_iter().enumerate() {
         for value in 0..=255 {
-            let item = 1 + random.below(12) as u32;
+            let item = any_item(random) as u32;
             changed(compare, random, recorded, (place, value), item)?;
         }
-        for item in 1..=12 {
+        for item in 1..=13 {
             for value in [0, 1, byte ^ 1, byte ^ 0x80] {
                 changed(compare, random, recorded, (place, value), item)?;
             }

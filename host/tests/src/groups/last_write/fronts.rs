@@ -5,13 +5,14 @@ use crate::compare::Compare;
 use crate::failure::Checked;
 use crate::groups::captures::Parts;
 use crate::random::Random;
+use crate::shapes::any_item;
 
 /// A capture of some frames, and an item that one of them writes with what is told of it.
 fn answered(random: &mut Random) -> (Vec<Recorded>, u32, i32, usize) {
     loop {
         let number = 1 + random.below(6);
         let recorded = some(random, number);
-        let item = 6 + random.below(7) as u32;
+        let item = 6 + random.below(8) as u32;
         if let Told::Found(value, records) = due(&recorded, item) {
             return (recorded, item, value, records);
         }
@@ -52,7 +53,7 @@ pub fn cut(compare: &mut Compare, random: &mut Random) -> Checked<()> {
         let recorded = some(random, number);
         let whole = parts(&recorded);
         for lost in 1..=whole.records.len() {
-            let item = 1 + random.below(12) as u32;
+            let item = any_item(random) as u32;
             let left = left_of(&recorded, lost);
             let mut parts = whole.clone();
             parts.records.drain(..lost);

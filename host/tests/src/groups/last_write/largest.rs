@@ -67,7 +67,7 @@ pub fn largest(compare: &mut Compare, random: &mut Random) -> Checked<()> {
     }
     for _ in 0..20 {
         let capture = Parts::of(&full_session(random)).capture();
-        for item in 1..=12 {
+        for item in 1..=13 {
             compare.call(&mut asking(random, capture.clone(), item))?;
         }
         let noise = random.bytes(65_536);

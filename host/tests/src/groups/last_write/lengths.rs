@@ -5,6 +5,7 @@ use crate::compare::Compare;
 use crate::failure::Checked;
 use crate::groups::captures::Parts;
 use crate::random::Random;
+use crate::shapes::any_item;
 
 /// Frames of every length, before a write, behind it and alone; then other lengths behind each frame
 /// of a capture.
@@ -48,7 +49,7 @@ fn other_lengths(
     let end = parts(&recorded[..=place]).records.len() - 2;
     let last = place + 1 == recorded.len();
     for length in any_lengths() {
-        let item = 1 + random.below(12) as u32;
+        let item = any_item(random) as u32;
         let mut parts = whole.clone();
         parts.records[end..end + 2].copy_from_slice(&length.to_be_bytes());
         let met = due(&recorded[place + 1..], item);

@@ -21,7 +21,7 @@ pub use damaged::damaged;
 pub use fronts::{cut, fronts};
 pub use largest::{largest, sizes};
 pub use lengths::lengths;
-pub use recorded::{parts, some, Recorded};
+pub use recorded::{left_by, parts, some, Recorded};
 pub use sessions::sessions;
 pub use trailers::{counts, places};
 pub use written::{all_items, near, spans, values};
@@ -31,6 +31,7 @@ use crate::call::{Call, Function};
 use crate::compare::Compare;
 use crate::failure::{Checked, Failure};
 use crate::random::Random;
+use crate::shapes::any_item;
 use recorded::{due, write};
 
 /// The call that asks a capture for the last write to an item at address 1. Value and records are
@@ -96,7 +97,7 @@ fn answers(
 
 /// Asks a capture for the last write to any item, whatever that gives.
 fn tried(compare: &mut Compare, random: &mut Random, capture: Vec<u8>) -> Checked<()> {
-    let item = 1 + random.below(12) as u32;
+    let item = any_item(random) as u32;
     compare.call(&mut asking(random, capture, item))?;
     Ok(())
 }

@@ -2,10 +2,11 @@
 
 use super::Told;
 use crate::groups::captures::Parts;
+use crate::groups::outcome::with_set;
 use crate::groups::requests::words;
 use crate::groups::several::{self, WRITABLE};
 use crate::random::Random;
-use reference::items::with_register;
+use reference::items::{with_register, ITEMS};
 use reference::modbus::with_crc;
 
 /// A frame, and the items that it writes with their values.
@@ -44,7 +45,7 @@ pub fn some(random: &mut Random, number: usize) -> Vec<Recorded> {
 fn one(random: &mut Random) -> Recorded {
     let span = random.pick(&WRITABLE);
     let frame = match random.below(12) {
-        0 => words(1, 0x03, 0, 19),
+        0 => words(1, 0x03, 0, 20),
         1 => words(1, 0x08, 0, 0x1F34),
         2 => several::accepted(random, 2),
         // Refused for the value, and for the register.
@@ -61,6 +62,17 @@ fn one(random: &mut Random) -> Recorded {
 pub fn parts(recorded: &[Recorded]) -> Parts {
     let frames: Vec<Vec<u8>> = recorded.iter().map(|one| one.frame.clone()).collect();
     Parts::of(&frames)
+}
+
+/// The table that a playback of these frames leaves: the start values and what is written over them,
+/// with the alarm states that are true then.
+pub fn left_by(recorded: &[Recorded]) -> Vec<i32> {
+    let start: Vec<i32> = ITEMS.iter().map(|row| row.start).collect();
+    let writes = recorded.iter().flat_map(|one| &one.writes);
+    let items: Vec<(usize, i32)> = writes
+        .map(|(item, value)| (*item as usize, *value))
+        .collect();
+    with_set(&start, &items)
 }
 
 /// What a well formed capture of these frames tells of an item.

@@ -5,6 +5,7 @@ use crate::compare::Compare;
 use crate::failure::Checked;
 use crate::groups::captures::{near_counts, near_places, Parts};
 use crate::random::Random;
+use crate::shapes::any_item;
 
 /// So many frames. The first writes PB and the last F1; of those between some write PR.
 fn answering(random: &mut Random, number: usize) -> Vec<Recorded> {
@@ -25,7 +26,7 @@ pub fn counts(compare: &mut Compare, random: &mut Random) -> Checked<()> {
     for number in [1, 2, 3, 4, 254, 255, 256, 257, 300] {
         let recorded = answering(random, number);
         let right = number as u16;
-        for item in 1..=12 {
+        for item in 1..=13 {
             for count in near_counts(right).chain([right]) {
                 counted(compare, random, &recorded, count, item)?;
             }
@@ -59,7 +60,7 @@ fn counted(
 
 /// No record: each count but 0 is wrong, and so is each place.
 fn none(compare: &mut Compare, random: &mut Random) -> Checked<()> {
-    for item in 1..=12 {
+    for item in 1..=13 {
         let none = Parts::of(&[]);
         answers(compare, random, &none, item, Told::Never(0))?;
         for byte in 0..6 {
@@ -100,7 +101,7 @@ pub fn places(compare: &mut Compare, random: &mut Random) -> Checked<()> {
 fn every_start(compare: &mut Compare, random: &mut Random, recorded: &[Recorded]) -> Checked<()> {
     let right = parts(recorded);
     for place in 0..right.records.len() as u32 + 6 {
-        let item = 1 + random.below(12) as u32;
+        let item = any_item(random) as u32;
         let told = if place == right.place {
             due(recorded, item)
         } else {

@@ -7,6 +7,7 @@ use crate::groups::captures::Parts;
 use crate::groups::requests::words;
 use crate::groups::several::{self, WRITABLE};
 use crate::random::Random;
+use crate::shapes::any_item;
 use reference::items::{in_range, with_register, ITEMS};
 use reference::modbus::{value_of, with_crc};
 
@@ -34,7 +35,7 @@ pub fn near(compare: &mut Compare, random: &mut Random) -> Checked<()> {
 
 /// Asks a capture of these frames for every item.
 pub fn all_items(compare: &mut Compare, random: &mut Random, recorded: &[Recorded]) -> Checked<()> {
-    for item in 1..=12 {
+    for item in 1..=13 {
         let told = due(recorded, item);
         answers(compare, random, &parts(recorded), item, told)?;
     }
@@ -93,7 +94,7 @@ fn not_writable(random: &mut Random, (start, quantity): (u16, usize)) -> Vec<Vec
             frames.push(several::right(1, wider.0, &values));
         }
     }
-    for register in (0..0x14).chain([0x100 + start, 0x8000 + start]) {
+    for register in (0..0x15).chain([0x100 + start, 0x8000 + start]) {
         if !WRITABLE.contains(&(register, 1)) {
             let value = several::good(random, register, 1)[0];
             frames.push(words(1, 0x06, register, value));
@@ -143,10 +144,10 @@ fn other_forms(random: &mut Random, (start, quantity): (u16, usize)) -> Vec<Vec<
 /// Then each item at both ends of its range, at its start value and one step beyond.
 pub fn values(compare: &mut Compare, random: &mut Random) -> Checked<()> {
     for value in 0..=u16::MAX {
-        let item = 1 + random.below(12);
+        let item = any_item(random);
         one_value(compare, random, item, value)?;
     }
-    for item in 1..=12 {
+    for item in 1..=13 {
         let row = &ITEMS[item - 1];
         for value in [row.low, row.high, row.start, row.low - 1, row.high + 1] {
             for _ in 0..4 {
@@ -172,8 +173,8 @@ fn one_value(compare: &mut Compare, random: &mut Random, item: usize, word: u16)
 /// Every span in and around the map, for every item: each register that it names is found where all
 /// can be written, and none else.
 pub fn spans(compare: &mut Compare, random: &mut Random) -> Checked<()> {
-    for start in 0..=0x14 {
-        for quantity in 1..=20 {
+    for start in 0..=0x15 {
+        for quantity in 1..=21 {
             let recorded = if WRITABLE.contains(&(start, quantity)) {
                 write(random, 1, (start, quantity))
             } else {

@@ -3,7 +3,7 @@ use crate::compare::Compare;
 use crate::failure::Checked;
 use crate::instrument::Instrument;
 use crate::random::Random;
-use crate::shapes::{ONE_CHARACTER, TWO_CHARACTERS, WAITING};
+use crate::shapes::{good_table, ONE_CHARACTER, TWO_CHARACTERS, WAITING};
 use reference::items::with_id;
 use reference::line::{bcc, ACK, ENQ, ETX, STX};
 
@@ -16,7 +16,7 @@ const FAULTS: [Fault; 6] = [TABLE_LENGTH, ENTRY, BUFFER, ADDRESS, STRUCTURE, STA
 
 /// What a block's text meets behind 11 and 12, as much as possible of what comes later being wrong
 /// too.
-const TEXTS: [(&[u8], u32); 41] = [
+const TEXTS: [(&[u8], u32); 50] = [
     (b"", 13),
     (b"P", 13),
     (b"+", 13),
@@ -34,6 +34,7 @@ const TEXTS: [(&[u8], u32); 41] = [
     (b"M10000001", 15),
     (b"M19999999", 15),
     (b"M1+++++++", 15),
+    (b"XU0000004", 15),
     (b"PB", 16),
     (b"PB-.", 16),
     (b"PB+99999", 16),
@@ -43,6 +44,8 @@ const TEXTS: [(&[u8], u32); 41] = [
     (b"M1+99999", 16),
     (b"AA.", 16),
     (b"AB+1", 16),
+    (b"XU", 16),
+    (b"XU+4", 16),
     (b"M10", 17),
     (b"M1999999", 17),
     (b"M1-99999", 17),
@@ -54,10 +57,16 @@ const TEXTS: [(&[u8], u32); 41] = [
     (b"PB10.01", 18),
     (b"PB-10.01", 18),
     (b"F1999999", 18),
+    (b"XU4", 18),
+    (b"XU-1", 18),
+    (b"S110000", 18),
+    (b"S1-2000", 18),
     (b"PB-.058", 0),
     (b"PR0.5009", 0),
     (b"TM999", 0),
     (b"A2-.1", 0),
+    (b"S1-1.999", 0),
+    (b"XU3.9", 0),
 ];
 
 /// The mark of a block and the top bit that is flipped in its BCC: the first has met no line error.
@@ -78,7 +87,8 @@ pub fn faults(compare: &mut Compare, random: &mut Random) -> Checked<()> {
 fn blocks(compare: &mut Compare, random: &mut Random, text: &[u8], number: u32) -> Checked<()> {
     for (mark, top) in DAMAGES {
         for flip in [0, STX, ETX, 0x40] {
-            let mut instrument = Instrument::judging(random, text);
+            let table = good_table(random);
+            let mut instrument = Instrument::judging(random, table, text);
             instrument.state[4] = mark;
             let byte = instrument.sent(bcc(text) ^ ETX ^ flip) ^ top;
             let call = instrument.call_byte(random, byte);
@@ -95,7 +105,7 @@ fn blocks(compare: &mut Compare, random: &mut Random, text: &[u8], number: u32) 
 
 /// The same on a poll that ends, goes on, or is answered.
 fn polls(compare: &mut Compare, random: &mut Random) -> Checked<()> {
-    let item = with_id(b"TM").expect("an item of the list") as u8;
+    let item = with_id(b"XU").expect("an item of the list") as u8;
     let steps: [(u8, u8, &[u8], u8, u32); 12] = [
         (0, 0, b"", STX, 0),
         (ONE_CHARACTER, 0, b"P", ENQ, 41),

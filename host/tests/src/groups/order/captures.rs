@@ -64,7 +64,7 @@ pub fn last_write(compare: &mut Compare, random: &mut Random) -> Checked<()> {
     for _ in 0..40 {
         let number = random.below(10);
         let capture = last_write::parts(&last_write::some(random, number)).capture();
-        for item in 1..=12 {
+        for item in 1..=13 {
             let call = Call {
                 address: random.pick(&[1, 1, 2, 99]),
                 ..last_write::asking(random, capture.clone(), item)

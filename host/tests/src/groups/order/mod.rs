@@ -24,7 +24,7 @@ use crate::call::Call;
 use crate::compare::Compare;
 use crate::failure::Checked;
 use crate::random::Random;
-use crate::shapes::{any_value, disagree, outside_limits, pattern, set};
+use crate::shapes::{any_item, any_value, disagree, outside_limits, pattern, set};
 use reference::items::in_range;
 
 /// A way to spoil a call, and the number that it gives where nothing before that is wrong.
@@ -56,7 +56,7 @@ fn every_set(
 
 /// 1: a table of another length.
 const TABLE_LENGTH: Fault = Fault(1, |call, random| {
-    let length = random.pick(&[0, 1, 11, 13, 24]);
+    let length = random.pick(&[0, 1, 12, 14, 26]);
     call.table.resize(length, 0);
 });
 
@@ -70,7 +70,7 @@ const ENTRY: Fault = Fault(2, |call, random| {
 });
 
 fn outside_range(table: &mut [i32], random: &mut Random) {
-    let item = random.below(12) + 1;
+    let item = any_item(random);
     let mut entry = any_value(random, item);
     while in_range(item, entry) {
         entry = any_value(random, item);
@@ -101,5 +101,5 @@ const STATE: Fault = Fault(5, |call, random| match random.below(4) {
 
 /// 6: an item that there is not.
 const ITEM: Fault = Fault(6, |call, random| {
-    call.item = random.pick(&[0, 13, 256 + call.item, u32::MAX]);
+    call.item = random.pick(&[0, 14, 256 + call.item, u32::MAX]);
 });

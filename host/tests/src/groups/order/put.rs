@@ -17,7 +17,7 @@ const FAULTS: [Fault; 4] = [TABLE_LENGTH, ENTRY, ITEM, VALUE];
 /// Every set of faults, for every item. AA and AB take no value.
 pub fn faults(compare: &mut Compare, random: &mut Random) -> Checked<()> {
     for _ in 0..100 {
-        for item in 1..=12 {
+        for item in 1..=13 {
             let call = Call {
                 item: item as u32,
                 value: good_value(random, item),

@@ -15,7 +15,7 @@ use reference::items::with_register;
 use reference::modbus::with_crc;
 
 /// Start and quantity of each span of writable registers alone.
-pub const WRITABLE: [(u16, usize); 11] = [
+pub const WRITABLE: [(u16, usize); 15] = [
     (0x08, 1),
     (0x0B, 1),
     (0x0B, 2),
@@ -24,9 +24,13 @@ pub const WRITABLE: [(u16, usize); 11] = [
     (0x10, 1),
     (0x10, 2),
     (0x10, 3),
+    (0x10, 4),
     (0x11, 1),
     (0x11, 2),
+    (0x11, 3),
     (0x12, 1),
+    (0x12, 2),
+    (0x13, 1),
 ];
 
 /// A request whose parts may not fit each other.
@@ -111,7 +115,7 @@ pub fn any(compare: &mut Compare, random: &mut Random) -> Checked<()> {
 pub fn any_request(random: &mut Random, address: u8) -> Vec<u8> {
     let (start, quantity) = match random.below(6) {
         0 => (random.word() as u16, random.below(124)),
-        1 => (random.below(0x14) as u16, random.below(21)),
+        1 => (random.below(0x15) as u16, random.below(22)),
         _ => random.pick(&WRITABLE),
     };
     let mut values = good(random, start, quantity);

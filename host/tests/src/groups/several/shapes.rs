@@ -8,11 +8,11 @@ use crate::random::Random;
 use reference::modbus::with_crc;
 
 /// Where writable registers start, and registers that are not: read-only, unlisted and past the map.
-const STARTS: [u16; 9] = [0x08, 0x0B, 0x0C, 0x10, 0x11, 0x12, 0x00, 0x0D, 0xFFFF];
+const STARTS: [u16; 10] = [0x08, 0x0B, 0x0C, 0x10, 0x11, 0x12, 0x13, 0x00, 0x0D, 0xFFFF];
 
 /// The least quantities, the greatest and those beside them, and some with the low byte of small
 /// ones.
-const QUANTITIES: [u16; 11] = [0, 1, 2, 3, 4, 122, 123, 124, 0x0101, 0x0102, 0x0103];
+const QUANTITIES: [u16; 12] = [0, 1, 2, 3, 4, 5, 122, 123, 124, 0x0101, 0x0103, 0x0104];
 
 /// Every count, with the length of the quantity's low byte and with its own; then every count and
 /// length up to those of some registers.
@@ -25,7 +25,7 @@ pub fn counts(compare: &mut Compare, random: &mut Random) -> Checked<()> {
                 }
             }
         }
-        for quantity in 0..=4 {
+        for quantity in 0..=5 {
             for count in 0..=12 {
                 for length in 0..=14 {
                     shaped(compare, random, start, quantity, count, length)?;

@@ -30,13 +30,13 @@ const SPOILED: [(u16, usize); 9] = [
     (0x0C, 2),
     (0x0C, 3),
     (0x0F, 2),
-    (0x12, 2),
+    (0x13, 2),
 ];
 
 /// Every span in and around the map and up to FFFFH. No value is out of range, one in each place, or
 /// some.
 pub fn spans(compare: &mut Compare, random: &mut Random) -> Checked<()> {
-    for start in (0..=0x14).chain(0xFFF0..=0xFFFF).chain(FAR) {
+    for start in (0..=0x15).chain(0xFFF0..=0xFFFF).chain(FAR) {
         for quantity in (0..=25).chain(122..=125).chain(MANY) {
             span(compare, random, start, quantity, &[])?;
             let places = places(quantity);
@@ -96,7 +96,7 @@ fn edges_of(register: u16) -> [u16; 8] {
 /// Each register in and beside the map alone with such values, and every mixture of them in spans
 /// that can be written and in some that cannot.
 pub fn edges(compare: &mut Compare, random: &mut Random) -> Checked<()> {
-    let alone = (0..=0x14).map(|register| (register, 1));
+    let alone = (0..=0x15).map(|register| (register, 1));
     let together = WRITABLE.into_iter().filter(|span| span.1 > 1);
     for (start, quantity) in alone.chain(together).chain(SPOILED) {
         for mixture in 0..8_usize.pow(quantity as u32) {
