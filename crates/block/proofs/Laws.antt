@@ -33,7 +33,7 @@ pub record Refusing (n : ℕ) : Type 0 where
   pub least : lineError ≤ n
   pub most : n ≤ outOfRange
 
--- number text takes the decimals of every item, and of what stands past the list, where it takes those that XU gives
+-- no line of the list has more decimals than the mark, and neither has what stands past it
 listed-decimals : (i : ℕ) → itemAt i .decimals ≤ byXU
 listed-decimals i = by (ltb i items) refl
   where
@@ -41,6 +41,7 @@ listed-decimals i = by (ltb i items) refl
     by true e = leb-true _ _ (passes-at (λ (k : ℕ). leb (itemAt k .decimals) byXU) items i refl (ltb-true i items e))
     by false e = rw (line-past i (ltb-false i items e)) (omega arith)
 
+-- so number text takes the decimals of every item, where it takes those that XU gives
 pub few-decimals : (xu i : ℕ) → xu ≤ mostDecimals → decimalsOf xu i ≤ mostDecimals
 unfolding decimalsOf
 few-decimals xu i few =

@@ -1,4 +1,4 @@
--- The item list of document 01, and looking an item up in it. Inside, an item is known by its place in the list, from 0.
+-- The item list of documents 01 and 02, and looking an item up in it. Inside, an item is known by its place in the list, from 0.
 use Prim.Native.Nat.{ℕ, suc, _<_}
 use mathlib.Core.Path.{_≡_}
 use mathlib.Core.Bool.{Bool, true, false, cond, _&&_}

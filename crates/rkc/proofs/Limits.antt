@@ -15,7 +15,6 @@ use Rattle.kept.specs.Kept.{upTo}
 use Rattle.items.specs.declared.Found.{Found}
 use Rattle.items.specs.declared.Found.the-variants.{At, Nothing}
 use Rattle.items.specs.ItemList.{items, found}
-use Rattle.table.specs.Table as table
 use Rattle.items.proofs.Lookup.{found-place}
 use Rattle.line.specs.Line.{ETX, topBit, lowSeven, within}
 use Rattle.line.proofs.Laws.{within-in, within-true, low-seven-small, taken-small}

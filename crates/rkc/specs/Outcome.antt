@@ -91,7 +91,8 @@ polled structure time t Nothing = quit structure unknownPolled
 
 -- ---- blocks
 
--- the number that refuses a block, once a byte was heard in the BCC's place; its number is read with the decimals that its item has now
+-- the number that refuses a block, once a byte was heard in the BCC's place; its number text is read with the decimals that its item
+-- has now
 abbrev pub refusing : List ℤ → Link → ℕ → ℕ
 refusing t l c = blockNumber (xuOf t) (l .mark) (l .bcc) (l .count) (l .kept) c
 

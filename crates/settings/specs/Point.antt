@@ -1,4 +1,5 @@
--- The decimal point chosen on site, as the Modbus lines have it: XU is a register like any other there, and moves no other. What it does on
+-- The decimal point chosen on site, as the Modbus lines have it: XU is a register like any other there, and moves no other. The claims are
+-- of the rules for a message, so they hold on every line that hands its messages to them, and of the frames of a capture. What XU does on
 -- the RKC line is claimed in `demands`.
 use Prim.Native.Nat.{ℕ}
 use mathlib.Core.Path.{_≡_}
@@ -7,7 +8,8 @@ use mathlib.Core.Bool.{true}
 use mathlib.Core.List.{List}
 use lib.IntN.{ℤ}
 use lib.ListN.{length}
-use Rattle.table.specs.Table.{goodTable, SameButXU}
+use Rattle.items.specs.ItemList.{itemAt}
+use Rattle.table.specs.Table.{XU, goodTable, SameButXU}
 use Rattle.registers.specs.Register.{registerAt}
 use Rattle.registers.specs.Faults.{firstWord, secondWord}
 use Rattle.writes.specs.Writes.{Outside}
@@ -15,9 +17,9 @@ use Rattle.modbus.specs.Outcome.{Outcome, functionOf}
 use Rattle.modbus.specs.Rules.{readRegisters, acted}
 use Rattle.settings.specs.Settings.{writesOf}
 
--- the register of XU
+-- the register of XU, 0013H
 abbrev pub xuRegister : ℕ
-xuRegister = 0x0013
+xuRegister = itemAt XU .register
 
 -- two outcomes have the same number and the same reply
 pub record SameAnswer (o p : Outcome) : Type 0 where

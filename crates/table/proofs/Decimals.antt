@@ -13,7 +13,7 @@ use Rattle.numbers.proofs.Tests.{contrary, both, chosen}
 use Rattle.items.specs.ItemList.{inRange}
 use Rattle.table.specs.Table.{entry, XU, xuOf}
 
--- a value in its range is that of 0 to 3
+-- a value in XU's range is one of 0 to 3
 pub in-xu : (v : ℤ) → inRange XU v ≡ true → T (nonNeg v) × (natAbs v ≤ 3)
 unfolding inRange
 in-xu (pos n) e = (tt, leb-true n 3 (both (leb 0 n) (leb n 3) e .1))

@@ -19,7 +19,7 @@ use Rattle.numbers.proofs.Order.{none-met, test-held}
 use Rattle.items.specs.ItemList.{Item, items, listed, itemList, noItem, itemAt, fromLowToHigh, inRange}
 use Rattle.table.specs.Table.{wrongLength, entryOutside, noSuchItem, valueOutside, entry, AA, AB, A1, A2, XU, isAlarmState, alarm}
 use Rattle.table.specs.Table.{alarmsAgree, alarmsKept, allInRange, tableFault, goodTable, startValues, stored, mayPut}
-use Rattle.table.specs.Table.{putNumber, putTable, SameButXU, AlarmsTrue}
+use Rattle.table.specs.Table.{putNumber, putTable, SameButXU, PutOfXU, AlarmsTrue}
 use Rattle.table.proofs.Alarms.{alarm-is, agree-true, kept-length, kept-other, kept-agree, others-decide, xu-no-matter}
 
 -- ---- a good table
@@ -148,7 +148,11 @@ pub stored-other : (t : List ℤ) (i j : ℕ) (v : ℤ) → isAlarmState j ≡ f
 stored-other t i j v o h =
     by-store (λ (s : List ℤ). entry s j ≡ entry t j) t i v refl (kept-other (set t i v) j o ∙ getD-set-other t i j v (pos 0) h)
 
--- so a store of the number that an item has leaves a good table as it is
+-- so a store to XU changes no other entry of a good table
+pub stored-but-xu : (t : List ℤ) (v : ℤ) → goodTable t ≡ true → inRange XU v ≡ true → SameButXU t (stored t XU v)
+stored-but-xu t v g r = good-but-xu t (stored t XU v) g (good-stored t XU v g r) (λ j o other. stored-other t XU j v o other)
+
+-- and one of the number that an item has leaves a good table as it is
 pub stored-own : (t : List ℤ) (i : ℕ) → goodTable t ≡ true → i < items → stored t i (entry t i) ≡ t
 stored-own t i g h =
     good-same t (stored t i (entry t i)) g (good-stored t i (entry t i) g (good-entry t i g h)) (λ j o k. by j o (eqb j i) refl)
@@ -245,8 +249,8 @@ good-put t n v g =
     (λ _. g)
 
 -- a put to XU, refused or not, changes no other entry
-pub put-but-xu : (t : List ℤ) (v : ℤ) → goodTable t ≡ true → SameButXU t (putTable t (suc XU) v)
+pub put-but-xu : PutOfXU
 unfolding putTable
 put-but-xu t v g =
-    good-but-xu t (putTable t (suc XU) v) g (good-put t (suc XU) v g)
-    (λ j o other. chosen (λ (s : List ℤ). entry s j ≡ entry t j) (eqb (putNumber t (suc XU) v) none) (λ _. stored-other t XU j v o other) (λ _. refl))
+    chosen (SameButXU t) (eqb (putNumber t (suc XU) v) none) (λ e. stored-but-xu t v g (accepted-in-range t (suc XU) v (eqb-true _ _ e)))
+    (λ _. record { long = refl; others = λ j other. refl })

@@ -1,6 +1,6 @@
--- The lent table: one entry per item, in the list's order. The alarm states, AA and AB, stand in it and are kept true; XU gives the decimals
--- of some items.
-use Prim.Native.Nat.{ℕ, _-_}
+-- The lent table: one entry per item, in the list's order. The alarm states, AA and AB, stand in it and are kept true; XU gives the
+-- decimals of some items.
+use Prim.Native.Nat.{ℕ, suc, _-_}
 use mathlib.Core.Path.{_≡_}
 use mathlib.Core.Logic.{_≢_}
 use mathlib.Core.Bool.{Bool, true, false, not, cond, _&&_, _||_}
@@ -143,6 +143,10 @@ putTable t n v = unlessMet (putNumber t n v) (λ number. t) (stored t (n - 1) v)
 pub record SameButXU (t u : List ℤ) : Type 0 where
   pub long : length u ≡ length t
   pub others : (j : ℕ) → j ≢ XU → entry u j ≡ entry t j
+
+-- a put to XU, by its number, leaves such a table of a good one, refused or not
+abbrev pub PutOfXU : Type 0
+PutOfXU = (t : List ℤ) (v : ℤ) → goodTable t ≡ true → SameButXU t (putTable t (suc XU) v)
 
 -- ---- what a lamp routine sees that looks at the table and asks nobody
 

@@ -1,5 +1,5 @@
--- What fits six characters, in document 01's figures, and demand 2: any value that fits, written out and read again at the same
--- decimals, is that value.
+-- What fits six characters, in document 01's figures; that other decimals move the point alone; and demand 2: any value that fits,
+-- written out and read again at the same decimals, is that value.
 use mathlib.Core.Path.{_≡_}
 use mathlib.Core.Bool.{Bool, true, cond, _&&_}
 use mathlib.Core.List.{List, [], _∷_}
@@ -28,7 +28,7 @@ abbrev pub withoutPoint : List ℕ → List ℕ
 withoutPoint [] = []
 withoutPoint (c ∷ cs) = cond (eqb c point) (withoutPoint cs) (c ∷ withoutPoint cs)
 
--- other decimals move the point alone: with it taken out, a value has the same characters wherever it has one
+-- other decimals move the point alone: with it taken out, a value has the same characters at all decimals from 1 on
 abbrev pub PointAlone : Type 0
 PointAlone = (width d e : ℕ) (v : ℤ) → 1 ≤ d → 1 ≤ e → withoutPoint (text width d v) ≡ withoutPoint (text width e v)
 
