@@ -16,7 +16,7 @@ from rkc_host import Host, open_port
 
 XU = panel.item("XU")
 
-# Every value of XU, in an order in which each is another than the one before, as 1 at the start.
+# Every value of XU, each another than the one before; XU is 1 at the start.
 ORDER = (3, 0, 2, 1)
 
 # Settings as blocks, and the stored numbers as registers. M1 is 0, so AA becomes 1.

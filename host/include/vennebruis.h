@@ -39,8 +39,8 @@
  *   Entry 13, XU, is how many decimals M1, S1, A1 and A2 have on the RKC line, in what is sent and
  *   in what is taken: 0 to 3, and 1 at the start. A host may set it on any line, and firmware by
  *   vb_put. Stored numbers and ranges do not move when it changes, only the point does: M1 stored
- *   as 1005 is sent as "001005", "0100.5", "010.05" or "01.005". All else deals in stored numbers,
- *   the lamps, vb_put and both Modbus lines, and takes no notice of XU.
+ *   as 1005 is sent as "001005", "0100.5", "010.05" or "01.005". All else (the lamps, vb_put, both
+ *   Modbus lines, captures) deals in stored numbers and takes no notice of XU.
  *
  *   A display that is to show what the RKC line sends writes these four items by vb_write_text,
  *   with table[VB_XU - 1] as the decimals: each of their values fits at each XU.
@@ -163,7 +163,7 @@ enum vb_number {
 /* The items. Entry n - 1 of the table holds item n as a whole number with the point left out: PB at
  * -1.5 is -150. Behind each: register, what the host may do, decimals on the RKC line, range, start
  * value. "Write" items may be read too. Four items have as many decimals as XU says. AA and AB
- * follow M1, A1 and A2; neither the host nor a put sets them. Both stand at the top. */
+ * follow M1, A1 and A2; neither the host nor a put sets them. The top has more of these and XU. */
 enum vb_item {
     VB_M1 = 1,  /* measured value: 0000H, read, XU, -1999 to 9999, 0 */
     VB_AA = 2,  /* alarm 1 state: 0001H, read, 0, 0 to 1, 0 */
