@@ -1,5 +1,7 @@
 // Runs the worked examples of the alarm states, which stand in the table, through the library and writes a line for each: the example,
 // and what comes of it.
+#![tactic(auto)]
+
 use line::{EOT, ETX, STX};
 use rkc::{Link, Stepped};
 

@@ -1,4 +1,6 @@
 // One line of Modbus ASCII: it is taken apart, its message is obeyed as in RTU, and the reply goes back as such a line.
+#![tactic(auto)]
+
 ghost use Rattle.std.specs.Prelude.{◌≡◌, ◌+◌, ◌*◌, ◌<◌, ◌≤◌, true, [], ◌∷◌, length, take};
 ghost use Rattle.std.proofs.lemmas.List.Edits.{sets};
 ghost use Rattle.numbers.specs.Numbers.{none};

@@ -1,4 +1,6 @@
 // Runs the worked examples of Modbus ASCII through the library and writes a line for each: the example, and what comes of it.
+#![tactic(auto)]
+
 use modbus::Answered;
 
 // The number of the item that the firmware puts: the measured value.

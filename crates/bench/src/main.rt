@@ -1,5 +1,7 @@
 // The RKC link on a pipe: bytes come from standard input and the replies, nothing else, go to standard output. The address is 1,
 // the structure 0, the time stays 0, and the table starts at its start values.
+#![tactic(auto)]
+
 use libc::{STDIN_FILENO, STDOUT_FILENO};
 use rkc::Link;
 

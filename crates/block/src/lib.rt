@@ -1,5 +1,7 @@
 // A whole block of the RKC line, judged once its BCC has come: the item that takes a value, or the number that refuses the
 // block. The numbers are tried in document 01's order, 11 to 18.
+#![tactic(auto)]
+
 ghost use Rattle.block.specs.Block.{Judges};
 
 use items::Found;

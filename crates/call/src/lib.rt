@@ -1,4 +1,6 @@
 // A call of either Modbus line: what the caller hands in beside a frame or a line, and its fault.
+#![tactic(auto)]
+
 ghost use Rattle.std.specs.Prelude.{◌≡◌};
 ghost use Rattle.call.specs.Call.{is_address, call_fault};
 

@@ -8,23 +8,24 @@ use Rattle.numbers.proofs.Single.{single, ◌&◌}
 use Rattle.capture.specs.declared.Shown.{Shown}
 use Rattle.capture.specs.Show.{Shows}
 use Rattle.capture.proofs as capture
+use Rattle.capture.specs.contracts as contract
 
-pub begins : OneOutcome capture.begins.ended capture.begins.Reads.Asked capture.begins.Reads.Post
+pub begins : OneOutcome contract.begins.ended capture.begins.Reads.Asked capture.begins.Reads.Post
 begins = record { asks_nothing = λ κs a. tt; single = λ κs a o u p q. single p q & refl }
 
-pub record-ends : OneOutcome capture.record_ends.ended capture.record_ends.Reads.Asked capture.record_ends.Reads.Post
+pub record-ends : OneOutcome contract.record_ends.ended capture.record_ends.Reads.Asked capture.record_ends.Reads.Post
 record-ends = record { asks_nothing = λ κs a. tt; single = λ κs a o u p q. single p q & refl }
 
-pub trailer-begins : OneOutcome capture.trailer_begins.ended capture.trailer_begins.Reads.Asked capture.trailer_begins.Reads.Post
+pub trailer-begins : OneOutcome contract.trailer_begins.ended capture.trailer_begins.Reads.Asked capture.trailer_begins.Reads.Post
 trailer-begins = record { asks_nothing = λ κs a. tt; single = λ κs a o u p q. single p q & refl }
 
-pub count : OneOutcome capture.count.ended capture.count.Reads.Asked capture.count.Reads.Post
+pub count : OneOutcome contract.count.ended capture.count.Reads.Asked capture.count.Reads.Post
 count = record { asks_nothing = λ κs a. tt; single = λ κs a o u p q. single p q & refl }
 
-pub trailer-right : OneOutcome capture.trailer_right.ended capture.trailer_right.Reads.Asked capture.trailer_right.Reads.Post
+pub trailer-right : OneOutcome contract.trailer_right.ended capture.trailer_right.Reads.Asked capture.trailer_right.Reads.Post
 trailer-right = record { asks_nothing = λ κs a. tt; single = λ κs a o u p q. single p q & refl }
 
-pub fault : OneOutcome capture.fault.ended capture.fault.Reads.Asked capture.fault.Reads.Post
+pub fault : OneOutcome contract.fault.ended capture.fault.Reads.Asked capture.fault.Reads.Post
 fault = record { asks_nothing = λ κs a. tt; single = λ κs a o u p q. single p q & refl }
 
 -- two answers that show one frame
@@ -32,17 +33,17 @@ pub shown-single : {c : List ℕ} {frame : ℕ} {r s : Shown} → Shows c frame 
 shown-single p q =
     λ i. record { number = single p.given q.given i; place = single p.place q.place i; len = single p.len q.len i }
 
-pub look_up : OneOutcome capture.look_up.ended capture.look_up.Reads.Asked capture.look_up.Reads.Post
+pub look_up : OneOutcome contract.look_up.ended capture.look_up.Reads.Asked capture.look_up.Reads.Post
 look_up = record { asks_nothing = λ κs a. tt; single = λ κs a o u p q. shown-single p q & refl }
 
-pub frame-before : OnePart capture.frame_before.ended (λ κs r. r) capture.frame_before.Reads.Asked capture.frame_before.Reads.Post
+pub frame-before : OnePart contract.frame_before.ended (λ κs r. r) capture.frame_before.Reads.Asked capture.frame_before.Reads.Post
 frame-before =
     record {
       asks_nothing = λ κs a. tt;
       single = λ κs a o u p q. (single p.bytes q.bytes, single p.stands q.stands, refl);
     }
 
-pub show : OnePart capture.show.ended (λ κs r. r) capture.show.Reads.Asked capture.show.Reads.Post
+pub show : OnePart contract.show.ended (λ κs r. r) capture.show.Reads.Asked capture.show.Reads.Post
 show =
     record {
       asks_nothing = λ κs a. tt;

@@ -1,5 +1,7 @@
 // A capture of RTU frames: records, found from the back, and a trailer that points to the last of them. Every public
 // function takes bytes of any length: past the end of a capture a byte counts as 0, and a difference below zero is 0.
+#![tactic(auto)]
+
 ghost use Rattle.std.specs.Prelude.{◌≡◌, ◌+◌, ◌-◌, ◌≤◌, ◌<◌, length, take};
 ghost use Rattle.numbers.specs.Numbers.{none};
 ghost use Rattle.capture.specs.Format.{two_at, size, begins, record_ends, frame_before, PartOf, trailer_begins, count, last_place};

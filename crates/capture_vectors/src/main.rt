@@ -1,5 +1,7 @@
 // Runs the worked examples of captures, from the words of document 02, through the library and writes a line for each: the example, and
 // what comes of it.
+#![tactic(auto)]
+
 use numbers::NONE;
 use writes::Given;
 

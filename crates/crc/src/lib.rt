@@ -1,4 +1,6 @@
 // The CRC-16 of Modbus RTU: start FFFFH, A001H, low bit first, low byte sent first.
+#![tactic(auto)]
+
 ghost use Rattle.std.specs.Prelude.{◌≡◌, ℕ, ◌+◌, ◌*◌, ◌<◌, get_or};
 ghost use Rattle.std.specs.Int.Bits.{bit_xor};
 ghost use Rattle.crc.specs.Crc.{shifts, crc16_of, is_right, Seals};

@@ -1,4 +1,6 @@
 // A reading as a float: the single-precision quotient of a whole number by ten to its decimals.
+#![tactic(auto)]
+
 ghost use Rattle.std.specs.Prelude.{◌≡◌, ◌≤◌, ◌^◌};
 ghost use Rattle.floats.specs.Quotient.{most_decimals, exact, float_bits};
 

@@ -1,4 +1,6 @@
 // The item list: what it says of an item, and looking one up. Inside, an item is known by its place in the list, from 0.
+#![tactic(auto)]
+
 ghost use Rattle.std.specs.Prelude.{◌≡◌};
 ghost use Rattle.items.specs.ItemList.{line_of, item_at, identifier_of, decimals_of, listed, in_range, found, found_by_register, place_of};
 

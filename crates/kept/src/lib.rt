@@ -1,4 +1,6 @@
 // The characters that a block keeps of its text: cut at the count, with one more in its place, and the numbers that bytes make.
+#![tactic(auto)]
+
 ghost use Rattle.std.specs.Prelude.{◌≡◌, [], ◌∷◌, ◌^◌, ◌<◌, set};
 ghost use Rattle.kept.specs.Bytes.{from_low, low_first};
 ghost use Rattle.kept.specs.Kept.{places, up_to};

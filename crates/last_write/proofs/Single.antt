@@ -8,6 +8,7 @@ use Rattle.numbers.proofs.Single.{single, ◌&◌}
 use Rattle.last_write.specs.declared.Answer.{Answer}
 use Rattle.last_write.specs.LastWrite.{Question, Answers}
 use Rattle.last_write.proofs as last_write
+use Rattle.last_write.specs.contracts as contract
 
 -- two answers to one question
 pub answer-single : {q : Question} {c : List ℕ} {r s : Answer} → Answers q c r → Answers q c s → r ≡ s
@@ -19,5 +20,5 @@ answer-single p q =
       records = single p.read q.read i;
     }
 
-pub ask : OneOutcome last_write.ask.ended last_write.ask.Reads.Asked last_write.ask.Reads.Post
+pub ask : OneOutcome contract.ask.ended last_write.ask.Reads.Asked last_write.ask.Reads.Post
 ask = record { asks_nothing = λ κs a. tt; single = λ κs a o u p q. answer-single p q & refl }

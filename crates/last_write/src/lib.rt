@@ -1,5 +1,7 @@
 // Who last set an item: a walk back from the trailer of a capture, up to the first frame that is met and writes the item. What lies in
 // front of that frame is not read.
+#![tactic(auto)]
+
 ghost use Rattle.std.specs.Prelude.{◌≡◌};
 ghost use Rattle.last_write.specs.LastWrite.{Answers, Askable, refused_by};
 

@@ -1,5 +1,7 @@
 // Characters on the RKC line: whether a byte keeps the line structure, how it is heard and sent, and the BCC.
 // What is heard is one number: 00H to 7FH is a character, and 80H up a line error with its low seven bits.
+#![tactic(auto)]
+
 ghost use Rattle.std.specs.Prelude.{◌≡◌};
 ghost use Rattle.line.specs.Line.{low_seven, keeps, top_unless, heard, sent, bcc};
 

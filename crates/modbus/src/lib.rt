@@ -1,4 +1,6 @@
 // The rules of Modbus for a message body: address, function, data. The check bytes that a line adds are that line's.
+#![tactic(auto)]
+
 ghost use Rattle.std.specs.Prelude.{◌≡◌, List, ◌+◌, ◌*◌, ◌≤◌, ◌<◌, ℤ, length};
 ghost use Rattle.std.proofs.lemmas.List.Edits.{sets};
 ghost use Rattle.numbers.specs.Numbers.{none, least_buffer};

@@ -1,5 +1,7 @@
 // The numbers and limits that both lines share. There is no function here: specs/Numbers.antt says how numbers are tried in their
 // order, specs/Promise.antt what it is to promise one outcome, and the crates above cite them.
+#![tactic(auto)]
+
 
 // Nothing is met.
 pub const NONE: u8 = 0;

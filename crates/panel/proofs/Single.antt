@@ -10,22 +10,23 @@ use Rattle.rkc.specs.Outcome.{Step}
 use Rattle.panel.specs.Promise.{StepLeft}
 use Rattle.panel.proofs.Frames.{result-single}
 use Rattle.panel.proofs as panel
+use Rattle.panel.specs.contracts as contract
 
 -- a number, and one thing that was lent
-pub start_table : OneOutcome panel.vb_start_table.ended panel.vb_start_table.Reads.Asked panel.vb_start_table.Reads.Post
+pub start_table : OneOutcome contract.vb_start_table.ended panel.vb_start_table.Reads.Asked panel.vb_start_table.Reads.Post
 start_table = record { asks_nothing = λ κs a. tt; single = λ κs a o u p q. (lent-single p q).0 & (lent-single p q).1 & refl }
 
-pub start_link : OneOutcome panel.vb_start_link.ended panel.vb_start_link.Reads.Asked panel.vb_start_link.Reads.Post
+pub start_link : OneOutcome contract.vb_start_link.ended panel.vb_start_link.Reads.Asked panel.vb_start_link.Reads.Post
 start_link = record { asks_nothing = λ κs a. tt; single = λ κs a o u p q. (lent-single p q).0 & (lent-single p q).1 & refl }
 
-pub put : OneOutcome panel.vb_put.ended panel.vb_put.Reads.Asked panel.vb_put.Reads.Post
+pub put : OneOutcome contract.vb_put.ended panel.vb_put.Reads.Asked panel.vb_put.Reads.Post
 put = record { asks_nothing = λ κs a. tt; single = λ κs a o u p q. (lent-single p q).0 & (lent-single p q).1 & refl }
 
-pub read_text : OneOutcome panel.vb_read_text.ended panel.vb_read_text.Reads.Asked panel.vb_read_text.Reads.Post
+pub read_text : OneOutcome contract.vb_read_text.ended panel.vb_read_text.Reads.Asked panel.vb_read_text.Reads.Post
 read_text =
     record { asks_nothing = λ κs a. tt; single = λ κs a o u p q. (lent-single p q).0 & refl & refl & (lent-single p q).1 & refl }
 
-pub write_text : OneOutcome panel.vb_write_text.ended panel.vb_write_text.Reads.Asked panel.vb_write_text.Reads.Post
+pub write_text : OneOutcome contract.vb_write_text.ended panel.vb_write_text.Reads.Asked panel.vb_write_text.Reads.Post
 write_text =
     record { asks_nothing = λ κs a. tt; single = λ κs a o u p q. (lent-single p q).0 & refl & refl & (lent-single p q).1 & refl }
 
@@ -34,7 +35,7 @@ step-single : {step : Step} {r q : ℕ} {s held kept before after other : List �
     → StepLeft step q s kept before other → (r ≡ q) × (held ≡ kept) × (after ≡ other)
 step-single x y = (single x.given y.given, single x.holds y.holds, single x.sent y.sent)
 
-pub byte : OneOutcome panel.vb_byte.ended panel.vb_byte.Reads.Asked panel.vb_byte.Reads.Post
+pub byte : OneOutcome contract.vb_byte.ended panel.vb_byte.Reads.Asked panel.vb_byte.Reads.Post
 byte =
     record {
       asks_nothing = λ κs a. tt;
@@ -43,11 +44,11 @@ byte =
           s.0 & s.1 & single p.left q.left & s.2 & refl;
     }
 
-pub idle : OneOutcome panel.vb_idle.ended panel.vb_idle.Reads.Asked panel.vb_idle.Reads.Post
+pub idle : OneOutcome contract.vb_idle.ended panel.vb_idle.Reads.Asked panel.vb_idle.Reads.Post
 idle = record { asks_nothing = λ κs a. tt; single = λ κs a o u p q. let s = step-single p q in s.0 & s.1 & s.2 & refl }
 
 -- a frame: the answer in the result, the table and the buffer
-pub rtu : OneOutcome panel.vb_rtu.ended panel.vb_rtu.Reads.Asked panel.vb_rtu.Reads.Post
+pub rtu : OneOutcome contract.vb_rtu.ended panel.vb_rtu.Reads.Asked panel.vb_rtu.Reads.Post
 rtu =
     record {
       asks_nothing = λ κs a. tt;
@@ -60,7 +61,7 @@ rtu =
           & refl;
     }
 
-pub ascii : OneOutcome panel.vb_ascii.ended panel.vb_ascii.Reads.Asked panel.vb_ascii.Reads.Post
+pub ascii : OneOutcome contract.vb_ascii.ended panel.vb_ascii.Reads.Asked panel.vb_ascii.Reads.Post
 ascii =
     record {
       asks_nothing = λ κs a. tt;
@@ -71,10 +72,10 @@ ascii =
           & refl;
     }
 
-pub playback : OneOutcome panel.vb_playback.ended panel.vb_playback.Reads.Asked panel.vb_playback.Reads.Post
+pub playback : OneOutcome contract.vb_playback.ended panel.vb_playback.Reads.Asked panel.vb_playback.Reads.Post
 playback = record { asks_nothing = λ κs a. tt; single = λ κs a o u p q. (lent-single p q).0 & (lent-single p q).1 & refl }
 
-pub show : OneOutcome panel.vb_show.ended panel.vb_show.Reads.Asked panel.vb_show.Reads.Post
+pub show : OneOutcome contract.vb_show.ended panel.vb_show.Reads.Asked panel.vb_show.Reads.Post
 show =
     record {
       asks_nothing = λ κs a. tt;
@@ -88,7 +89,7 @@ show =
     }
 
 -- the last write: the number with whether one was found, the value and the records read
-pub last-write : OneOutcome panel.vb_last_write.ended panel.vb_last_write.Reads.Asked panel.vb_last_write.Reads.Post
+pub last-write : OneOutcome contract.vb_last_write.ended panel.vb_last_write.Reads.Asked panel.vb_last_write.Reads.Post
 last-write =
     record {
       asks_nothing = λ κs a. tt;

@@ -1,5 +1,7 @@
 // The C face: functions for firmware, which lends the link state as 24 bytes. A slice passes as pointer and length. A result is
 // the number given back plus 256 times the length of the reply.
+#![tactic(auto)]
+
 ghost use Rattle.std.specs.Prelude.{◌≡◌, ◌≤◌, length};
 ghost use Rattle.std.proofs.lemmas.List.Edits.{sets};
 ghost use Rattle.numbers.specs.Promise.{Lent};

@@ -1,6 +1,8 @@
 // The decision over phase and character: what a byte asks for in a phase of the RKC link. Bytes come as they were heard, 80H up
 // being line errors, so that matches have ranges for digits, printable and control characters and for line errors too.
 // Nothing here touches a state, a table or a buffer: the caller does what an act says.
+#![tactic(auto)]
+
 ghost use Rattle.std.specs.Prelude.{◌≡◌};
 ghost use Rattle.phases.specs.Decision.{at_digit, first_or, at_addressed, at_one_character, at_two_characters, at_waiting, at_text, at_answered, decided};
 

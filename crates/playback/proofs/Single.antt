@@ -4,9 +4,10 @@ use mathlib.Core.Path.{refl}
 use Rattle.numbers.specs.Promise.{OneOutcome}
 use Rattle.numbers.proofs.Single.{single, lent-single, ◌&◌}
 use Rattle.playback.proofs as playback
+use Rattle.playback.specs.contracts as contract
 
-pub wrote : OneOutcome playback.wrote.ended playback.wrote.Reads.Asked playback.wrote.Reads.Post
+pub wrote : OneOutcome contract.wrote.ended playback.wrote.Reads.Asked playback.wrote.Reads.Post
 wrote = record { asks_nothing = λ κs a. tt; single = λ κs a o u p q. single p q & refl }
 
-pub play : OneOutcome playback.play.ended playback.play.Reads.Asked playback.play.Reads.Post
+pub play : OneOutcome contract.play.ended playback.play.Reads.Asked playback.play.Reads.Post
 play = record { asks_nothing = λ κs a. tt; single = λ κs a o u p q. let e = lent-single p q in e.0 & e.1 & refl }

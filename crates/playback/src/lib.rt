@@ -1,6 +1,8 @@
 // A capture played back: the table that a device ends with that begins at the start values and is handed the capture's frames one at a
 // time. Records can only be walked from the back, so one walk back settles each item by the first write to it that is met, and the alarm
 // states are made true at the end.
+#![tactic(auto)]
+
 ghost use Rattle.std.specs.Prelude.{◌≡◌, length, ◌≤◌, ◌<◌};
 ghost use Rattle.numbers.specs.Promise.{Lent};
 ghost use Rattle.items.specs.ItemList.{items};

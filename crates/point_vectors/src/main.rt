@@ -1,5 +1,7 @@
 // Runs the worked examples of the decimal point chosen on site through the library and writes a line for each: the example, and what
 // comes of it.
+#![tactic(auto)]
+
 use line::{ENQ, EOT, ETX, STX};
 use rkc::{Link, Stepped};
 

@@ -1,5 +1,7 @@
 // What the body of a message asks for: its two words, the registers they name, the fault that a read or a loopback meets, and the form
 // of a write of several registers.
+#![tactic(auto)]
+
 ghost use Rattle.std.specs.Prelude.{◌≡◌, get_or};
 ghost use Rattle.registers.specs.Register.{to_register, of_register, word, register_at};
 ghost use Rattle.registers.specs.Faults.{first_word, second_word, in_map};

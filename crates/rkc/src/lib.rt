@@ -3,6 +3,8 @@
 // A byte call goes through these: byte_fault (the caller's faults), phases::decide (what the character asks for), and perform, the
 // only one that touches the table and the reply buffer. Each looks at no more than the phase uses, so that only a block has its
 // kept characters cut at the count.
+#![tactic(auto)]
+
 mod faults;
 mod replies;
 mod states;

@@ -1,4 +1,6 @@
 // One Modbus RTU frame: the message rules between a test of its CRC and a reply that is sealed with one.
+#![tactic(auto)]
+
 ghost use Rattle.std.specs.Prelude.{◌≡◌};
 ghost use Rattle.numbers.specs.Numbers.{none};
 ghost use Rattle.crc.specs.Crc.{framed, body_of};

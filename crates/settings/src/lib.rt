@@ -1,5 +1,7 @@
 // What a message sets: whether it is a write that the rules accept, and what it gives an item. The claims of specs/Settings.antt are
 // about the rules, which stand in `modbus`, and not about this code.
+#![tactic(auto)]
+
 ghost use Rattle.std.specs.Prelude.{◌≡◌, drop};
 ghost use Rattle.writes.specs.Writes.{given};
 ghost use Rattle.settings.specs.Settings.{data_of, writes_of, right_form, accepts_write};

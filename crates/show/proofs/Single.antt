@@ -5,42 +5,43 @@ use mathlib.Core.Path.{refl}
 use Rattle.numbers.specs.Promise.{OneOutcome}
 use Rattle.numbers.proofs.Single.{◌&◌}
 use Rattle.show.proofs as show
+use Rattle.show.specs.contracts as contract
 
-pub text : OneOutcome show.text.ended show.text.Reads.Asked show.text.Reads.Post
+pub text : OneOutcome contract.text.ended show.text.Reads.Asked show.text.Reads.Post
 text = record { asks_nothing = λ κs a. tt; single = λ κs a o u p q. refl & refl }
 
-pub arrow : OneOutcome show.arrow.ended show.arrow.Reads.Asked show.arrow.Reads.Post
+pub arrow : OneOutcome contract.arrow.ended show.arrow.Reads.Asked show.arrow.Reads.Post
 arrow = record { asks_nothing = λ κs a. tt; single = λ κs a o u p q. refl & refl }
 
-pub end-of-line : OneOutcome show.end_of_line.ended show.end_of_line.Reads.Asked show.end_of_line.Reads.Post
+pub end-of-line : OneOutcome contract.end_of_line.ended show.end_of_line.Reads.Asked show.end_of_line.Reads.Post
 end-of-line = record { asks_nothing = λ κs a. tt; single = λ κs a o u p q. refl & refl }
 
-pub byte : OneOutcome show.byte.ended show.byte.Reads.Asked show.byte.Reads.Post
+pub byte : OneOutcome contract.byte.ended show.byte.Reads.Asked show.byte.Reads.Post
 byte = record { asks_nothing = λ κs a. tt; single = λ κs a o u p q. refl & refl }
 
-pub part : OneOutcome show.part.ended show.part.Reads.Asked show.part.Reads.Post
+pub part : OneOutcome contract.part.ended show.part.Reads.Asked show.part.Reads.Post
 part = record { asks_nothing = λ κs a. tt; single = λ κs a o u p q. refl & refl }
 
-pub bytes : OneOutcome show.bytes.ended show.bytes.Reads.Asked show.bytes.Reads.Post
+pub bytes : OneOutcome contract.bytes.ended show.bytes.Reads.Asked show.bytes.Reads.Post
 bytes = record { asks_nothing = λ κs a. tt; single = λ κs a o u p q. refl & refl }
 
-pub register : OneOutcome show.register.ended show.register.Reads.Asked show.register.Reads.Post
+pub register : OneOutcome contract.register.ended show.register.Reads.Asked show.register.Reads.Post
 register = record { asks_nothing = λ κs a. tt; single = λ κs a o u p q. refl & refl }
 
-pub quoted : OneOutcome show.quoted.ended show.quoted.Reads.Asked show.quoted.Reads.Post
+pub quoted : OneOutcome contract.quoted.ended show.quoted.Reads.Asked show.quoted.Reads.Post
 quoted = record { asks_nothing = λ κs a. tt; single = λ κs a o u p q. refl & refl }
 
-pub quoted-up-to : OneOutcome show.quoted_up_to.ended show.quoted_up_to.Reads.Asked show.quoted_up_to.Reads.Post
+pub quoted-up-to : OneOutcome contract.quoted_up_to.ended show.quoted_up_to.Reads.Asked show.quoted_up_to.Reads.Post
 quoted-up-to = record { asks_nothing = λ κs a. tt; single = λ κs a o u p q. refl & refl }
 
-pub count : OneOutcome show.count.ended show.count.Reads.Asked show.count.Reads.Post
+pub count : OneOutcome contract.count.ended show.count.Reads.Asked show.count.Reads.Post
 count = record { asks_nothing = λ κs a. tt; single = λ κs a o u p q. refl & refl }
 
-pub number : OneOutcome show.number.ended show.number.Reads.Asked show.number.Reads.Post
+pub number : OneOutcome contract.number.ended show.number.Reads.Asked show.number.Reads.Post
 number = record { asks_nothing = λ κs a. tt; single = λ κs a o u p q. refl & refl }
 
-pub value : OneOutcome show.value.ended show.value.Reads.Asked show.value.Reads.Post
+pub value : OneOutcome contract.value.ended show.value.Reads.Asked show.value.Reads.Post
 value = record { asks_nothing = λ κs a. tt; single = λ κs a o u p q. refl & refl }
 
-pub values : OneOutcome show.values.ended show.values.Reads.Asked show.values.Reads.Post
+pub values : OneOutcome contract.values.ended show.values.Reads.Asked show.values.Reads.Post
 values = record { asks_nothing = λ κs a. tt; single = λ κs a o u p q. refl & refl }

@@ -1,5 +1,7 @@
 // Lines of text on standard output, for the programs that run worked examples. Bytes, numbers, values and quotes come with a space
 // before them.
+#![tactic(auto)]
+
 ghost use Rattle.std.specs.Prelude.{◌<◌};
 
 use libc::STDOUT_FILENO;

@@ -1,4 +1,6 @@
 // Signed numbers: their order, their size without the sign, and making one from a sign and a size.
+#![tactic(auto)]
+
 ghost use Rattle.std.specs.Prelude.{◌≡◌, nat_abs};
 ghost use Rattle.std.specs.Int.Signed.{lt_z};
 ghost use Rattle.sign.specs.Sign.{made};

@@ -1,5 +1,7 @@
 // The lent table, which has one entry for each item: its check, its start values, what either line answers for an item,
 // storing a value, and the firmware's put. The alarm states, AA and AB, stand in it and are kept true; XU gives the decimals of some items.
+#![tactic(auto)]
+
 ghost use Rattle.std.specs.Prelude.{◌≡◌, length, set};
 ghost use Rattle.numbers.specs.Promise.{Lent};
 ghost use Rattle.items.specs.ItemList.{items, item_list};

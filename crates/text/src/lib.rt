@@ -1,5 +1,7 @@
 // Number text both ways: what the characters of a number say, and the characters of a value. The numbers of a refusal are
 // document 01's.
+#![tactic(auto)]
+
 ghost use Rattle.std.specs.Prelude.{◌≡◌, false, ◌+◌, ◌-◌, ◌/◌, ◌<◌, ◌≤◌, ◌^◌, length};
 ghost use Rattle.sign.specs.Sign.{made};
 ghost use Rattle.text.specs.Characters.{is_digit};

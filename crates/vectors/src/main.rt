@@ -2,6 +2,8 @@
 // library and writes a line for each: the example, and what comes of it. An example that more than one document prints stands where
 // it comes first. Those of captures, of Modbus ASCII and of the alarm states have programs
 // of their own, `capture_vectors`, `ascii_vectors` and `alarm_vectors`.
+#![tactic(auto)]
+
 mod modbus_rtu;
 mod rkc_line;
 
