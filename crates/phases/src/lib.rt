@@ -163,6 +163,7 @@ fn at_answered(c: u8) -> Act
 // What a byte asks for in a phase. Of last (the number of the list's last item), first and second (the kept identifier
 // characters), item (the one sent last) and address it uses those that the phase has. The BCC comes before EOT: a byte in its
 // place is the BCC, also one that looks like EOT.
+#[tactic(auto, unfolding(crate::specs::Decision::decided))]
 pub fn decide(last: u8, phase: u8, first: u8, second: u8, item: u8, address: u8, c: u8) -> Act
     ensures { result ≡ decided last phase first second item address c }
 {
