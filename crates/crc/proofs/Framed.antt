@@ -21,7 +21,7 @@ unfolding crc_from
 from-small crc [] h hb = h
 from-small crc (b ∷ bytes) h hb =
     let low : b < 256 = hb 0 in
-    from-small _ bytes (shifts-small 8 (bit_xor crc b) (xor_lt 16 crc b h (omega arith))) (rest-bytes b bytes hb)
+    from-small (shifts 8 (bit_xor crc b)) bytes (shifts-small 8 (bit_xor crc b) (xor_lt 16 crc b h (omega arith))) (rest-bytes b bytes hb)
 
 -- a CRC is a number of 16 bits
 pub crc-small : (bytes : List ℕ) → Bytes bytes → crc16_of bytes < 2 ^ 16
@@ -85,7 +85,7 @@ right-framed f h e =
 crc-append : (crc : ℕ) (s t : List ℕ) → crc_from crc (s ++ t) ≡ crc_from (crc_from crc s) t
 unfolding crc_from
 crc-append crc [] t = refl
-crc-append crc (b ∷ s) t = crc-append _ s t
+crc-append crc (b ∷ s) t = crc-append (shifts 8 (bit_xor crc b)) s t
 
 -- a register that takes in its own two bytes, the low one first, comes to 0
 own-crc : (crc : ℕ) → crc < 2 ^ 16 → crc_from crc (low_first crc) ≡ 0
