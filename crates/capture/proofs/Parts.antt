@@ -13,12 +13,12 @@ use Rattle.capture.specs.Format.{two_at, size}
 -- ---- numbers of two bytes
 
 module _ (c : List ℕ) (bytes : (i : ℕ) → Fits w8 (get_or c i 0)) where
-  pub two-small : (i : ℕ) → two_at c i < 0x10000
-  two-small i = omega (arith, bytes i, bytes (i + 1))
+  pub two_small : (i : ℕ) → two_at c i < 0x10000
+  two_small i = omega (arith, bytes i, bytes (i + 1))
 
   pub size_small : (end : ℕ) → size c end < 0x10000
   unfolding size
-  size_small end = two-small (end - 2)
+  size_small end = two_small (end - 2)
 
 -- ---- parts
 

@@ -56,6 +56,7 @@ fn two_at(capture: &[u8], i: usize) -> usize
 // ---- a record: the bytes of a frame, then two with their number
 
 // How many bytes the frame has whose record ends in front of a place.
+#[tactic(auto, unfolding(crate::specs::Format::size))]
 fn size(capture: &[u8], end: usize) -> usize
     ensures { result ≡ size capture.now end }
 {
@@ -63,6 +64,7 @@ fn size(capture: &[u8], end: usize) -> usize
 }
 
 // Where that record begins.
+#[tactic(auto, using(crate::proofs::Parts::size_small), unfolding(crate::specs::Format::begins))]
 pub fn begins(capture: &[u8], end: usize) -> usize
     ensures { result ≡ begins capture.now end }
 {
@@ -70,6 +72,7 @@ pub fn begins(capture: &[u8], end: usize) -> usize
 }
 
 // Whether a record ends there.
+#[tactic(auto, using(crate::proofs::Parts::size_small), unfolding(crate::specs::Format::record_ends))]
 pub fn record_ends(capture: &[u8], end: usize) -> bool
     ensures { result ≡ record_ends capture.now end }
 {
@@ -101,18 +104,21 @@ pub fn frame_before(capture: &[u8], end: usize) -> &[u8]
 
 // ---- the trailer: two bytes with the number of records, four with the place where the last one begins
 
+#[tactic(auto, unfolding(crate::specs::Format::trailer_begins))]
 pub fn trailer_begins(capture: &[u8]) -> usize
     ensures { result ≡ trailer_begins capture.now }
 {
     difference(capture.len(), TRAILER_LENGTH)
 }
 
+#[tactic(auto, unfolding(crate::specs::Format::trailer_begins, crate::specs::Format::count))]
 pub fn count(capture: &[u8]) -> usize
     ensures { result ≡ count capture.now }
 {
     two_at(capture, trailer_begins(capture))
 }
 
+#[tactic(auto, using(crate::proofs::Parts::two_small), unfolding(crate::specs::Format::trailer_begins, crate::specs::Format::last_place))]
 fn last_place(capture: &[u8]) -> usize
     ensures { result ≡ last_place capture.now }
 {
