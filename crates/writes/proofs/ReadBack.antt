@@ -14,10 +14,10 @@ use Rattle.numbers.proofs.Tests.{contrary, both}
 use Rattle.items.specs.ItemList.{items, map_size, item_at, place_of}
 use Rattle.items.proofs.Lists.{writable-listed}
 use Rattle.items.proofs.Lookup.{item-has, place-past, place-registered}
-use Rattle.table.specs.Table.{entry, is_alarm_state, answered}
+use Rattle.table.specs.Table.{entry, is_alarm_state, answered, stored}
 use Rattle.table.proofs.Alarms.{writable-no-state}
 use Rattle.table.proofs.Laws.{stored-length, stored_same, stored_other}
-use Rattle.registers.specs.Register.{to_register, word, high_first, read_as, register_at, registers_from}
+use Rattle.registers.specs.Register.{to_register, of_register, word, high_first, read_as, register_at, registers_from}
 use Rattle.registers.proofs.Registers.{to-of}
 use Rattle.writes.specs.Writes.{Write, writes, writable, each, stored_all, Outside}
 
@@ -80,7 +80,7 @@ outside-stays t r [] i s a o = refl
 outside-stays t r (high ∷ []) i s a o = refl
 outside-stays t r (high ∷ low ∷ bytes) i s a o =
     let p = both (item_at (place_of r)).writable (each writable (writes (suc r) bytes)) a in
-    outside-stays _ (suc r) bytes i s p.1 (next o)
+    outside-stays (stored t (place_of r) (of_register (word high low))) (suc r) bytes i s p.1 (next o)
     ∙ stored_other t (place_of r) i _ s (λ e. other o (ap (λ (k : ℕ). (item_at k).register) e ∙ its-register r p.0))
   where
     next : Outside r (suc (length (writes (suc r) bytes))) (item_at i).register
@@ -108,8 +108,9 @@ all-stand t r (high ∷ low ∷ bytes) l a =
     let listed = writable-listed (place_of r) p.0 in
     let here = its-register r p.0 in
     let other = writable-no-state (place_of r) p.0 in (
-      outside-stays _ (suc r) bytes (place_of r) other p.1 (inl (omega arith)) ∙ stored_same t (place_of r) _ other (omega arith),
-      all-stand _ (suc r) bytes (stored-length t (place_of r) _ ∙ l) p.1,
+      outside-stays (stored t (place_of r) (of_register (word high low))) (suc r) bytes (place_of r) other p.1 (inl (omega arith))
+          ∙ stored_same t (place_of r) _ other (omega arith),
+      all-stand (stored t (place_of r) (of_register (word high low))) (suc r) bytes (stored-length t (place_of r) _ ∙ l) p.1,
     )
 
 -- and the registers read the bytes that were written

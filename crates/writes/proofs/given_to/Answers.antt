@@ -1,0 +1,32 @@
+-- The writes are looked at from the back, and what the first for the item gives is given by all.
+use Rattle.std.proofs.Common.{◌≡◌, sym, ap, ◌∙◌, arith, length, ◌/◌, ◌-◌, ◌+◌}
+use Rattle.sign.proofs.Laws.{same}
+use Rattle.writes.specs.declared.Given.TheVariants.{Value, Nothing}
+use Rattle.writes.proofs.Data.{GivenFrom, gives_none, gives-this, gives-on, value_stays}
+use Rattle.writes.proofs.given_to.Goals as goal
+
+pub loop-left-init : goal.loop-left-init
+loop-left-init c = record {
+  within = omega arith;
+  given = gives_none c.args.start c.args.bytes.now c.args.item (length c.args.bytes.now / 2) (omega arith);
+}
+
+pub returns-then-item_behind-item : goal.returns-then-item_behind-item
+returns-then-item_behind-item c =
+    let value = c.value_behind in
+    let one : c.loop-left.left - 1 + 1 ≡ c.loop-left.left = omega arith in
+    let behind : GivenFrom c.args.start c.args.bytes.now c.args.item (c.loop-left.left - 1 + 1) Nothing = rw one c.loop-left.invariant.given in
+    ap Value (same value.result value.type_inv ∙ value.ensures)
+    ∙ sym (value_stays c.args.start c.args.bytes.now c.args.item (c.loop-left.left - 1) (omega arith)
+    (gives-this c.args.start c.args.bytes.now c.args.item (c.loop-left.left - 1) behind (omega arith)
+    (sym c.item_behind.ensures ∙ c.if-item_behind-item.true)))
+
+pub loop-left-preserved : goal.loop-left-preserved
+loop-left-preserved c =
+    let one : c.loop-left.left - 1 + 1 ≡ c.loop-left.left = omega arith in
+    let behind : GivenFrom c.args.start c.args.bytes.now c.args.item (c.loop-left.left - 1 + 1) Nothing = rw one c.loop-left.invariant.given in
+    record {
+      within = omega arith;
+      given = gives-on c.args.start c.args.bytes.now c.args.item (c.loop-left.left - 1) behind (omega arith)
+          (λ e. c.if-item_behind-item.false (c.item_behind.ensures ∙ e));
+    }
