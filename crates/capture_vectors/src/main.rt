@@ -3,6 +3,7 @@
 #![tactic(auto)]
 
 use numbers::NONE;
+use std::rt::Stdout;
 use writes::Given;
 
 // Document 000's write of 0102H to the offset, one of FF6AH, and document 004's write of a register that the map does not have.
@@ -24,103 +25,107 @@ const F1: u8 = 11;
 // ---- the line of one example
 
 // The capture that a function is handed, up to what comes of it.
-fn handed(capture: &[u8]) {
-    show::text(b":");
-    show::bytes(capture);
-    show::arrow();
+fn handed(out: &Stdout, capture: &[u8]) {
+    show::text(out, b":");
+    show::bytes(out, capture);
+    show::arrow(out);
 }
 
-fn playback(address: u8, capture: &[u8]) {
-    show::text(b"playback");
-    show::byte(address);
-    handed(capture);
+fn playback(out: &Stdout, address: u8, capture: &[u8]) {
+    show::text(out, b"playback");
+    show::byte(out, address);
+    handed(out, capture);
     let mut table = [0i32; items::ITEMS];
     let number = playback::play(&mut table, address, capture);
-    show::number(number);
+    show::number(out, number);
     if number == NONE {
-        show::text(b":");
-        show::values(&table);
+        show::text(out, b":");
+        show::values(out, &table);
     }
-    show::end_of_line();
+    show::end_of_line(out);
 }
 
-fn frame(frame: u8, capture: &[u8]) {
-    show::text(b"show");
-    show::number(frame);
-    handed(capture);
+fn frame(out: &Stdout, frame: u8, capture: &[u8]) {
+    show::text(out, b"show");
+    show::number(out, frame);
+    handed(out, capture);
     let number = capture::look_up(capture, frame as u32).number;
-    show::number(number);
+    show::number(out, number);
     if number == NONE {
-        show::text(b":");
-        show::bytes(capture::show(capture, frame as u32));
+        show::text(out, b":");
+        show::bytes(out, capture::show(capture, frame as u32));
     }
-    show::end_of_line();
+    show::end_of_line(out);
 }
 
-fn told(written: Given) {
+fn told(out: &Stdout, written: Given) {
     match written {
-        Given::Value(value) => show::value(value),
-        Given::Nothing => show::text(b" never written"),
+        Given::Value(value) => show::value(out, value),
+        Given::Nothing => show::text(out, b" never written"),
     }
 }
 
-fn last_write(address: u8, item: u8, capture: &[u8]) {
-    show::text(b"last");
-    show::byte(address);
-    show::text(b", item");
-    show::number(item);
-    handed(capture);
+fn last_write(out: &Stdout, address: u8, item: u8, capture: &[u8]) {
+    show::text(out, b"last");
+    show::byte(out, address);
+    show::text(out, b", item");
+    show::number(out, item);
+    handed(out, capture);
     let answer = last_write::ask(capture, address, item as u32);
-    show::number(answer.number);
+    show::number(out, answer.number);
     if answer.number == NONE {
         let written = answer.written;
-        show::text(b":");
-        told(written);
-        show::text(b", records");
-        show::count(answer.records);
+        show::text(out, b":");
+        told(out, written);
+        show::text(out, b", records");
+        show::count(out, answer.records);
     }
-    show::end_of_line();
+    show::end_of_line(out);
 }
 
 // ---- the examples
 
 // 3/14: a capture with no record; three writes played back and shown; and a trailer that counts one record too many.
-fn played_back_and_shown() {
-    playback(1, b"\x00\x00\x00\x00\x00\x00");
-    playback(1, &THREE_WRITES);
-    frame(2, &THREE_WRITES);
-    frame(4, &THREE_WRITES);
-    playback(1, &MISCOUNTED);
+fn played_back_and_shown(out: &Stdout) {
+    playback(out, 1, b"\x00\x00\x00\x00\x00\x00");
+    playback(out, 1, &THREE_WRITES);
+    frame(out, 2, &THREE_WRITES);
+    frame(out, 4, &THREE_WRITES);
+    playback(out, 1, &MISCOUNTED);
 }
 
 // 7/14: the alarm states are true at the end. A1 is written to 0, where M1 is, and then above it; A2 below it, and then out of range.
-fn played_back_to_alarms() {
+fn played_back_to_alarms(out: &Stdout) {
     playback(
+        out,
         1,
         b"\x01\x06\x00\x0C\x00\x00\x49\xC9\x00\x08\x00\x01\x00\x00\x00\x00",
     );
     playback(
+        out,
         1,
         b"\x01\x06\x00\x0C\x00\x00\x49\xC9\x00\x08\x01\x06\x00\x0C\x00\x01\x88\x09\x00\x08\x00\x02\x00\x00\x00\x0A",
     );
     playback(
+        out,
         1,
         b"\x01\x10\x00\x0E\x00\x01\x02\xFF\xFF\xA6\xCE\x00\x0B\x01\x06\x00\x0E\x27\x10\xF2\x35\x00\x08\x00\x02\x00\x00\x00\x0D",
     );
 }
 
 // 4/14: the last write to the offset, and to the filter, which has none; with damage in front of the one; and where the count is wrong.
-fn last_written() {
-    last_write(1, PB, &THREE_WRITES);
-    last_write(1, F1, &THREE_WRITES);
-    last_write(1, PB, &DAMAGED_IN_FRONT);
-    last_write(1, F1, &DAMAGED_IN_FRONT);
-    last_write(1, PB, &MISCOUNTED);
-    last_write(1, F1, &MISCOUNTED);
+fn last_written(out: &Stdout) {
+    last_write(out, 1, PB, &THREE_WRITES);
+    last_write(out, 1, F1, &THREE_WRITES);
+    last_write(out, 1, PB, &DAMAGED_IN_FRONT);
+    last_write(out, 1, F1, &DAMAGED_IN_FRONT);
+    last_write(out, 1, PB, &MISCOUNTED);
+    last_write(out, 1, F1, &MISCOUNTED);
 }
 
-fn main() {
-    played_back_and_shown();
-    played_back_to_alarms();
-    last_written();
+fn main(rt: HostRuntime) {
+    let out = rt.stdout();
+    played_back_and_shown(&out);
+    played_back_to_alarms(&out);
+    last_written(&out);
 }

@@ -4,19 +4,19 @@
 
 ghost use Rattle.std.specs.Prelude.{◌<◌};
 
-use libc::STDOUT_FILENO;
+use std::rt::Stdout;
 
-pub fn text(chars: &[u8]) {
-    io::write_all(STDOUT_FILENO, chars);
+pub fn text(out: &Stdout, chars: &[u8]) {
+    let _ = out.write_all(chars);
 }
 
 // Between an example and what comes of it.
-pub fn arrow() {
-    text(b" ->");
+pub fn arrow(out: &Stdout) {
+    text(out, b" ->");
 }
 
-pub fn end_of_line() {
-    text(b"\n");
+pub fn end_of_line(out: &Stdout) {
+    text(out, b"\n");
 }
 
 // A hexadecimal digit, in capitals.
@@ -26,26 +26,26 @@ fn digit(n: u8) -> u8
     if n < 10 { b'0' + n } else { b'A' + (n - 10) }
 }
 
-pub fn byte(byte: u8) {
+pub fn byte(out: &Stdout, byte: u8) {
     let chars = [b' ', digit(byte / 16), digit(byte % 16)];
-    text(&chars);
+    text(out, &chars);
 }
 
 // The bytes from one place up to another, as far as there are any.
-pub fn part(bytes: &[u8], from: usize, to: usize) {
+pub fn part(out: &Stdout, bytes: &[u8], from: usize, to: usize) {
     for i in 0..bytes.len() {
         if from <= i && i < to {
-            byte(bytes[i]);
+            byte(out, bytes[i]);
         }
     }
 }
 
-pub fn bytes(bytes: &[u8]) {
-    part(bytes, 0, bytes.len());
+pub fn bytes(out: &Stdout, bytes: &[u8]) {
+    part(out, bytes, 0, bytes.len());
 }
 
 // Two bytes in one.
-pub fn register(high: u8, low: u8) {
+pub fn register(out: &Stdout, high: u8, low: u8) {
     let chars = [
         b' ',
         digit(high / 16),
@@ -53,42 +53,42 @@ pub fn register(high: u8, low: u8) {
         digit(low / 16),
         digit(low % 16),
     ];
-    text(&chars);
+    text(out, &chars);
 }
 
-pub fn quoted(chars: &[u8]) {
-    text(b" \"");
-    text(chars);
-    text(b"\"");
+pub fn quoted(out: &Stdout, chars: &[u8]) {
+    text(out, b" \"");
+    text(out, chars);
+    text(out, b"\"");
 }
 
 // The characters up to a place, if there are as many.
-pub fn quoted_up_to(chars: &[u8], to: usize) {
+pub fn quoted_up_to(out: &Stdout, chars: &[u8], to: usize) {
     if to <= chars.len() {
-        quoted(&chars[..to]);
+        quoted(out, &chars[..to]);
     }
 }
 
-pub fn count(n: usize) {
-    text(b" ");
-    io::print_decimal(STDOUT_FILENO, n as u64);
+pub fn count(out: &Stdout, n: usize) {
+    text(out, b" ");
+    let _ = out.print(n as u64);
 }
 
-pub fn number(number: u8) {
-    count(number as usize);
+pub fn number(out: &Stdout, number: u8) {
+    count(out, number as usize);
 }
 
-pub fn value(value: i32) {
+pub fn value(out: &Stdout, value: i32) {
     if value < 0 {
-        text(b" -");
+        text(out, b" -");
     } else {
-        text(b" ");
+        text(out, b" ");
     }
-    io::print_decimal(STDOUT_FILENO, sign::size(value) as u64);
+    let _ = out.print(sign::size(value) as u64);
 }
 
-pub fn values(values: &[i32]) {
+pub fn values(out: &Stdout, values: &[i32]) {
     for i in 0..values.len() {
-        value(values[i]);
+        value(out, values[i]);
     }
 }

@@ -2,6 +2,7 @@
 ghost use Rattle.std.specs.Prelude.{◌<◌};
 
 use modbus::Answered;
+use std::rt::Stdout;
 
 // The numbers of the items that the firmware puts: the measured value, and the set value, whose range has every value of the examples.
 const M1: u32 = 1;
@@ -24,15 +25,15 @@ fn copy(bytes: &[u8], frame: &mut [u8], from: usize)
     }
 }
 
-pub fn crc(bytes: &[u8]) {
-    show::text(b"crc");
-    show::bytes(bytes);
-    show::arrow();
+pub fn crc(out: &Stdout, bytes: &[u8]) {
+    show::text(out, b"crc");
+    show::bytes(out, bytes);
+    show::arrow(out);
     let mut frame = [0u8; 256];
     copy(bytes, &mut frame, 0);
     let end = crc::seal(&mut frame, bytes.len());
-    show::part(&frame, bytes.len(), end);
-    show::end_of_line();
+    show::part(out, &frame, bytes.len(), end);
+    show::end_of_line(out);
 }
 
 // A reply's length without its CRC; without a reply it is 0.
@@ -41,28 +42,28 @@ fn without_crc(len: usize) -> usize {
 }
 
 // The number and the reply, bare of its address and CRC or whole.
-fn show_answer(answered: Answered, reply: &[u8], bare: bool) {
-    show::arrow();
-    show::number(answered.number);
-    show::text(b":");
+fn show_answer(out: &Stdout, answered: Answered, reply: &[u8], bare: bool) {
+    show::arrow(out);
+    show::number(out, answered.number);
+    show::text(out, b":");
     if bare {
-        show::part(reply, 1, without_crc(answered.len));
+        show::part(out, reply, 1, without_crc(answered.len));
     } else {
-        show::part(reply, 0, answered.len);
+        show::part(out, reply, 0, answered.len);
     }
-    show::end_of_line();
+    show::end_of_line(out);
 }
 
-pub fn rtu(address: u8, frame: &[u8]) {
-    show::text(b"rtu");
-    show::byte(address);
-    show::text(b":");
-    show::bytes(frame);
+pub fn rtu(out: &Stdout, address: u8, frame: &[u8]) {
+    show::text(out, b"rtu");
+    show::byte(out, address);
+    show::text(out, b":");
+    show::bytes(out, frame);
     let mut table = [0i32; items::ITEMS];
     let mut reply = [0u8; numbers::LEAST_BUFFER];
     table::start(&mut table);
     let answered = rtu::frame(&mut table, &mut reply, address, frame);
-    show_answer(answered, &reply, false);
+    show_answer(out, answered, &reply, false);
 }
 
 // A request is sent to an address and answered there: the frame has the address in front and the CRC behind.
@@ -74,56 +75,56 @@ fn exchange(table: &mut [i32], reply: &mut [u8], address: u8, request: &[u8]) ->
     rtu::frame(table, reply, address, &frame[..end])
 }
 
-fn show_exchange(table: &mut [i32], address: u8, request: &[u8], bare: bool) {
+fn show_exchange(out: &Stdout, table: &mut [i32], address: u8, request: &[u8], bare: bool) {
     let mut reply = [0u8; numbers::LEAST_BUFFER];
     let answered = exchange(table, &mut reply, address, request);
-    show_answer(answered, &reply, bare);
+    show_answer(out, answered, &reply, bare);
 }
 
-pub fn ask(address: u8, request: &[u8]) {
-    show::text(b"ask");
-    show::byte(address);
-    show::text(b":");
-    show::byte(address);
-    show::bytes(request);
+pub fn ask(out: &Stdout, address: u8, request: &[u8]) {
+    show::text(out, b"ask");
+    show::byte(out, address);
+    show::text(out, b":");
+    show::byte(out, address);
+    show::bytes(out, request);
     let mut table = [0i32; items::ITEMS];
     table::start(&mut table);
-    show_exchange(&mut table, address, request, false);
+    show_exchange(out, &mut table, address, request, false);
 }
 
 // The same after the firmware has put a value to M1.
-pub fn ask_with_m1(address: u8, value: i32, request: &[u8]) {
-    show::text(b"ask");
-    show::byte(address);
-    show::text(b", M1");
-    show::value(value);
-    show::text(b":");
-    show::byte(address);
-    show::bytes(request);
+pub fn ask_with_m1(out: &Stdout, address: u8, value: i32, request: &[u8]) {
+    show::text(out, b"ask");
+    show::byte(out, address);
+    show::text(out, b", M1");
+    show::value(out, value);
+    show::text(out, b":");
+    show::byte(out, address);
+    show::bytes(out, request);
     let mut table = [0i32; items::ITEMS];
     table::start(&mut table);
     table::put(&mut table, M1, value);
-    show_exchange(&mut table, address, request, false);
+    show_exchange(out, &mut table, address, request, false);
 }
 
-pub fn pdu(request: &[u8]) {
-    show::text(b"pdu");
-    show::bytes(request);
+pub fn pdu(out: &Stdout, request: &[u8]) {
+    show::text(out, b"pdu");
+    show::bytes(out, request);
     let mut table = [0i32; items::ITEMS];
     table::start(&mut table);
-    show_exchange(&mut table, 1, request, true);
+    show_exchange(out, &mut table, 1, request, true);
 }
 
 // The firmware puts a value to S1, and a host reads its register, 000BH.
-pub fn register(value: i32) {
-    show::text(b"register");
-    show::value(value);
-    show::arrow();
+pub fn register(out: &Stdout, value: i32) {
+    show::text(out, b"register");
+    show::value(out, value);
+    show::arrow(out);
     let mut table = [0i32; items::ITEMS];
     let mut reply = [0u8; numbers::LEAST_BUFFER];
     table::start(&mut table);
     table::put(&mut table, S1, value);
     exchange(&mut table, &mut reply, 1, b"\x03\x00\x0B\x00\x01");
-    show::register(reply[3], reply[4]);
-    show::end_of_line();
+    show::register(out, reply[3], reply[4]);
+    show::end_of_line(out);
 }
