@@ -21,7 +21,7 @@ use replies::{handed_back, quit, silent};
 use states::in_phase;
 use steps::elapsed;
 
-#[derive(Drop)]
+#[derive(Clone, Copy)]
 pub struct Link {
     pub phase: u8,
     pub item: u8,
@@ -33,7 +33,7 @@ pub struct Link {
 }
 
 // What a step hands back: the state, the number, and how many bytes of the buffer are the reply.
-#[derive(Drop)]
+#[derive(Clone, Copy)]
 pub struct Stepped {
     pub link: Link,
     pub number: u8,
