@@ -19,7 +19,7 @@ pub fn is_address(address: u8) -> bool
 // The caller's fault, 0 for none.
 pub fn fault(table: &[i32], reply: &[u8], address: u8) -> u8
     ensures { result
-        ≡ call_fault (record { table = table.entry.now; buffer = reply.now; address = address }) }
+        ≡ call_fault (record { table = table.now; buffer = reply.now; address = address }) }
 {
     let fault = table::check(table);
     if fault != NONE {
