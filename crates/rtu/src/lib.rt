@@ -41,7 +41,7 @@ pub fn frame_fault(frame: &[u8]) -> u8
 // The caller's fault, or else the frame's, 0 for none.
 fn refusal(table: &[i32], reply: &[u8], address: u8, frame: &[u8]) -> u8
     ensures { result
-        ≡ refusal (record { table = table.entry.now; buffer = reply.now; address = address })
+        ≡ refusal (record { table = table.now; buffer = reply.now; address = address })
         (frame_fault frame.now) }
 {
     let fault = call::fault(table, reply, address);
@@ -53,7 +53,7 @@ fn refusal(table: &[i32], reply: &[u8], address: u8, frame: &[u8]) -> u8
 
 // The message rules act on the body of a frame that is not refused, and a reply gets its CRC.
 fn answer(table: &mut [i32], reply: &mut [u8], address: u8, frame: &[u8]) -> Answered
-    requires { refusal (record { table = table.now; buffer = reply.old; address = address }) (frame_fault frame.now)
+    requires { refusal (record { table = table.old; buffer = reply.old; address = address }) (frame_fault frame.now)
         ≡ none }
     ensures { Gives (sending framed (acted table.old address (body_of frame.now)))
         result reply.old reply.new table.new }
@@ -72,8 +72,8 @@ fn answer(table: &mut [i32], reply: &mut [u8], address: u8, frame: &[u8]) -> Ans
 
 // One frame, for a device with this address: the number, and the sealed reply at the buffer's front.
 pub fn frame(table: &mut [i32], reply: &mut [u8], address: u8, frame: &[u8]) -> Answered
-    ensures { Acts (record { table = table.entry.now; buffer = reply.old; address = address })
-        frame.now result reply.new table.exit.now }
+    ensures { Acts (record { table = table.old; buffer = reply.old; address = address })
+        frame.now result reply.new table.new }
 {
     let number = refusal(&table[..], &reply[..], address, frame);
     if number != NONE {
