@@ -4,7 +4,7 @@ use mathlib.Core.Path.{◌≡◌, refl}
 use Prim.Native.Nat.{ℕ, zero, suc}
 use native.Mathlib.Omega.{arith}
 use borrow.Author.Tests.{lt-leb}
-use lib.Ieee.{binary32, round, size, units, odd, div, of_int, to_bits}
+use lib.Ieee.{round, size, units, odd, div, of_int, to_bits}
 use lib.IntN.{pos}
 use Rattle.floats.specs.Quotient.{most_decimals, quotient, float_bits, Examples}
 
