@@ -2,7 +2,6 @@
 // order, specs/Promise.antt what it is to promise one outcome, and the crates above cite them.
 #![tactic(auto)]
 
-
 // Nothing is met.
 pub const NONE: u8 = 0;
 
