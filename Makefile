@@ -7,14 +7,17 @@ test:
 
 # Proves the bench program, runs it on the worked example of document 01 and shows both sides in hex.
 run:
-	rt check bench
+	@mkdir -p target
+	cd crates/bench && rt run <stdin >../../target/bench.stdout
 	@echo 'from the host:' && od -An -tx1 crates/bench/stdin
-	@echo 'from the panel:' && host/build/run target/bin/bench <crates/bench/stdin | od -An -tx1
+	@echo 'from the panel:' && od -An -tx1 target/bench.stdout
 
 # The library that firmware links.
 library = target/staticlib/libpanel.a
-$(library): crates.txt $(shell find crates -type f)
-	rt staticlib panel
+$(library): crates.txt $(shell find crates -name out -prune -o -type f -print)
+	cd crates/panel_c && rt lib
+	@mkdir -p $(@D)
+	cp crates/panel_c/out/libpanel_c.a $@
 
 # The tests of the reference, which is the link written a second time.
 cargo_words = --quiet --release --locked --target-dir target/cargo --manifest-path

@@ -64,7 +64,7 @@ def inside(addresses, entries):
 
 
 def by_emulator(program, functions):
-    """Counted in the log of the proof kit's emulator, with blocks of one instruction each."""
+    """Counted in the emulator's log, with blocks of one instruction each."""
     log = kit.TARGET / "trace.log"
     printed = run(
         [kit.ROOT / "host" / "build" / "run", *program],

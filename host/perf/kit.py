@@ -14,9 +14,8 @@ TRIPLE = "x86_64-unknown-linux-gnu"
 
 
 def proof_kit():
-    """The folder of the proof kit for this machine, which has a linker and a C library."""
-    home = os.environ.get("RATTLE_HOME") or pathlib.Path(shutil.which("rt")).resolve().parents[1]
-    return pathlib.Path(home) / "on" / platform.machine()
+    """The folder of the proof kit, which has a linker and a C library."""
+    return pathlib.Path(shutil.which("rt")).resolve().parents[1]
 
 
 def libmodbus():
@@ -49,6 +48,8 @@ def missing():
     ]
     if NATIVE:
         needs.append((shutil.which("valgrind"), "valgrind: valgrind"))
+    else:
+        needs.append((shutil.which("qemu-x86_64"), "qemu-x86_64: qemu-user"))
     return [name for found, name in needs if not found]
 
 
