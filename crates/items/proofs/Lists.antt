@@ -41,6 +41,11 @@ writable-listed i w = by (ltb i items) refl
     by true e = ltb-true i items e
     by false e = contrary (sym w ∙ ap (λ (x : Item). x.writable) (line-past i (ltb-false i items e)))
 
+-- a place has a line
+pub line-within : (i : ℕ) → line_of i < length lines
+line-within i =
+    chosen (λ (k : ℕ). k < length lines) (ltb i items) (λ e. let h = ltb-true i items e in omega arith) (λ _. omega arith)
+
 -- a column has at the line of a place what the list says of the item there
 pub column : {A : Type 0} (f : Item → A) (i : ℕ) (d : A) → get_or (map f lines) (line_of i) d ≡ f (item_at i)
 column f i d = by (ltb i items) refl

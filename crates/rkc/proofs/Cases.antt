@@ -4,7 +4,7 @@ use Rattle.std.proofs.Common.{◌≡◌, ℕ, ◌+◌, ◌<◌, ◌≤◌, Bool,
 use mathlib.Core.Path.{subst⁻¹}
 use borrow.Author.Tests.{lt-leb}
 use Rattle.numbers.specs.Numbers.{none, unless, first_met, short_buffer, least_buffer, bad_setting}
-use Rattle.numbers.proofs.Order.{not-met, none-at, last-met, test-held}
+use Rattle.numbers.proofs.Order.{this-met, not-met, none-at, last-met, test-held}
 use Rattle.table.specs.Table.{table_fault, xu_of, stored}
 use Rattle.line.specs.Line.{ACK, NAK, sent, heard}
 use Rattle.phases.specs.Phases as phases
@@ -78,6 +78,9 @@ module _ (l : Link) (room : ℕ) (settings : Bool) where
   step-outside h s e = simp (le-leb least_buffer room h, s, e)
 
 module _ (t : List ℤ) (step : ℕ) {f : ℕ} (e : f ≡ table_fault t) where
+  pub table-first : (f ≡ none → ⊥) → first_met (table_fault t ∷ step ∷ []) ≡ f
+  table-first n = rw (← e) (this-met f (step ∷ []) n)
+
   pub step-next : f ≡ none → first_met (table_fault t ∷ step ∷ []) ≡ step
   step-next z = rw (← e) (not-met f (step ∷ []) z ∙ last-met step)
 

@@ -1,4 +1,4 @@
--- What a turn of the loop over digits, and each call of the reading, tells of the definitions.
+-- What a turn of each loop over characters, and each call of the reading, tells of the definitions.
 -- Assumes nothing.
 use mathlib.Core.Path.{◌≡◌, refl, sym, ◌∙◌}
 use mathlib.Core.Bool.{Bool, true, false, cond, ◌&&◌, and-false}
@@ -6,7 +6,7 @@ use mathlib.Core.List.{List, [], ◌∷◌, ◌++◌}
 use Prim.Native.Nat.{ℕ, suc, ◌+◌, ◌-◌, ◌*◌, ◌/◌, ◌^◌, ◌<◌, ◌≤◌}
 use native.Mathlib.Nat.{zero-add, pow-le-pow_right, mul-le-mul_left, div-le_self}
 use native.Mathlib.Omega.{arith}
-use borrow.Author.Tests.{ne_eqb, le-leb}
+use borrow.Author.Tests.{eq-eqb, ne_eqb, le-leb}
 use lib.Dec.{leb, eqb}
 use lib.ListN.{length, get_or, drop, length-append, drop_of_length-le}
 use lib.Pow.{pow-add}
@@ -24,9 +24,18 @@ use Rattle.text.proofs.Numerals.{all_append, number_append, number-below}
 -- ---- one character
 
 module _ (cs : List ℕ) (i : ℕ) (h : i < length cs) where
+  pub point-here : get_or cs i 0 ≡ point → point_at (drop i cs) ≡ 0
+  point-here e = rw (drop-cons cs i 0 h, eq-eqb _ _ e)
+
+  pub point-later : (get_or cs i 0 ≡ point → ⊥) → point_at (drop i cs) ≡ suc (point_at (drop (suc i) cs))
+  point-later e = rw (drop-cons cs i 0 h, ne_eqb _ _ e)
+
   pub digit-here : (n : ℕ) → is_digit (get_or cs i 0) ≡ true
       → digits_from n (drop i cs) ≡ digits_from (n * 10 + (get_or cs i 0 - zero_digit)) (drop (suc i) cs)
   digit-here n e = rw (drop-cons cs i 0 h, e)
+
+  pub other-here : (n : ℕ) → is_digit (get_or cs i 0) ≡ false → digits_from n (drop i cs) ≡ Other
+  other-here n e = rw (drop-cons cs i 0 h, e)
 
 -- ---- what `digits_from` found
 
@@ -103,6 +112,13 @@ nothing-after cs h = drop_of_length-le cs h ∙ sym (drop_of_length-le cs {i = s
 -- the first character is the minus
 abbrev pub minus_first : List ℕ → Bool
 minus_first cs = eqb (get_or cs 0 0) minus_sign
+
+pub sign-within : (cs : List ℕ) → 0 < length cs → bool_byte (minus_first cs) ≤ length cs
+sign-within cs h = go (minus_first cs)
+  where
+    go : (minus : Bool) → bool_byte minus ≤ length cs
+    go true = omega arith
+    go false = omega arith
 
 -- the number starts after the minus, or with the first character
 pub sign-apart : (d : ℕ) (cs : List ℕ) → 0 < length cs

@@ -20,6 +20,10 @@ use Rattle.text.proofs.Numerals.{digits-length, fewer_digits}
 
 -- ---- room
 
+pub one-point : (d : ℕ) → (d ≡ 0 → ⊥) → points d ≡ 1
+one-point zero h = absurd (h refl)
+one-point (suc d) h = refl
+
 points-few : (d : ℕ) → points d ≤ 1
 points-few zero = omega arith
 points-few (suc d) = omega arith

@@ -84,6 +84,9 @@ module _ (start : ℕ) (bytes : List ℕ) where
     abbrev pub StoredTo : List ℤ → ℕ → Type 0
     StoredTo s i = stored_all s (left i) ≡ stored_all t (writes start bytes)
 
+    pub stored-none : StoredTo t 0
+    stored-none = ap (stored_all t) all_left
+
     pub stores-on : (s : List ℤ) (i : ℕ) → StoredTo s i → i < length bytes / 2
         → StoredTo (stored s (at i).place (at i).value) (i + 1)
     stores-on s i so h = sym (ap (stored_all s) (one_left i h)) ∙ so
@@ -120,3 +123,6 @@ module _ (start : ℕ) (bytes : List ℕ) where
         value_stays i (omega arith)
         (ap (λ (ws : List Write). given ws item) (one_left i (omega arith))
         ∙ ap (λ (x : Given). later x (cond (eqb (at i).place item) (Value (at i).value) Nothing)) next)
+
+    pub none-given : GivenFrom 0 Nothing → given (writes start bytes) item ≡ Nothing
+    none-given g = ap (λ (ws : List Write). given ws item) (sym all_left) ∙ g
