@@ -1,6 +1,6 @@
 -- What is taken of a line, step by step.
 -- Assumes nothing.
-use Rattle.std.proofs.Common.{◌≡◌, ℕ, suc, ◌+◌, ◌*◌, ◌/◌, ◌%◌, ◌<◌, ◌≤◌, Bool, true, false, ◌&&◌, eqb, leb, List, [], ◌∷◌, length, get_or, take, drop, set, sym, refl, ap, ◌∙◌, subst, ap₂, add-one, arith, length-drop, drop-cons, ne_eqb, eqb-true, le-leb, leb-true}
+use Rattle.std.proofs.Common.{◌≡◌, ℕ, suc, ◌+◌, ◌*◌, ◌/◌, ◌%◌, ◌<◌, ◌≤◌, Bool, true, false, ◌&&◌, eqb, leb, List, [], ◌∷◌, length, get_or, take, drop, set, sym, refl, ap, ◌∙◌, subst, ap₂, add-one, arith, length-drop, length-take, drop-cons, ne_eqb, eqb-true, le-leb, leb-true}
 use borrow.Author.Tests.{lt-leb}
 use lib.Seq.{sets}
 use Rattle.numbers.proofs.Tests.{contrary, both}
@@ -83,6 +83,12 @@ long-enough (c ∷ d ∷ rest) e = omega arith
 -- nothing
 pub takes_none : {bytes : List ℕ} (after : List ℕ) → bytes ≡ [] → Takes bytes after 0
 takes_none after e = record { handed = ap length (sym e); stand = sym e }
+
+-- what is taken lies within the buffer
+pub takes-inside : {bytes after : List ℕ} {r : ℕ} → Takes bytes after r → r ≤ length after
+takes-inside {after = after} {r} t =
+    let short : length (take r after) ≤ length after = simp length-take (omega arith) in
+    omega (arith, t.handed, ap length t.stand)
 
 -- these bytes, by another name
 pub takes-by : {bytes others after : List ℕ} {r : ℕ} → bytes ≡ others → Takes bytes after r → Takes others after r

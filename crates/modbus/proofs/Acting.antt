@@ -4,13 +4,16 @@ use mathlib.Core.Path.{◌≡◌, refl, sym, ap, subst, subst⁻¹, ◌∙◌}
 use mathlib.Core.Bool.{true, false}
 use mathlib.Core.List.{List}
 use Prim.Native.Nat.{ℕ, ◌≤◌, ◌<◌}
-use borrow.Author.Tests.{ne_eqb, le-leb, lt-leb}
+use borrow.Author.Tests.{ne_eqb, leb-true, le-leb, lt-leb}
+use lib.Dec.{eqb, leb}
 use lib.IntN.{ℤ}
+use lib.ListN.{length}
 use Rattle.numbers.specs.Numbers.{none, unless_met, short_buffer, least_buffer}
+use Rattle.numbers.proofs.Tests.{both}
 use Rattle.numbers.proofs.Order.{is-refused, is-done}
 use Rattle.modbus.specs.declared.Answered.{Answered}
 use Rattle.modbus.specs.Outcome.{Outcome, other_address, unknown_function, silent, exception_reply, exception}
-use Rattle.modbus.specs.Outcome.{function_of}
+use Rattle.modbus.specs.Outcome.{head_length, address_of, function_of}
 use Rattle.modbus.specs.Rules.{read_registers, write_register, loopback, write_several, ours}
 use Rattle.modbus.specs.Rules.{reading, writing, looping_back, writing_several, obeying, acted, acted_within}
 use Rattle.modbus.specs.Promise.{Sends, Gives}
@@ -78,6 +81,11 @@ module _ (t : List ℤ) (address : ℕ) (body : List ℕ) where
   pub without-room : (room : ℕ) → room < least_buffer → acted_within t room address body ≡ silent t short_buffer
   unfolding acted_within
   without-room room h = rw (lt-leb least_buffer room h)
+
+-- a message that is ours has an address and a function
+pub ours-head : (address : ℕ) (body : List ℕ) → ours address body ≡ true → head_length ≤ length body
+ours-head address body e =
+    leb-true head_length (length body) (both (leb head_length (length body)) (eqb (address_of body) address) e).0
 
 -- silence leaves the buffer and the table
 pub gives-silence : (t : List ℤ) (number : ℕ) (buffer : List ℕ) (r : Answered) → r ≡ record { number = number; len = 0 }
