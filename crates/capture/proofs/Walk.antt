@@ -7,7 +7,7 @@ use mathlib.Core.List.{List, [], ◌∷◌, ◌++◌, append_assoc}
 use Prim.Native.Nat.{ℕ, zero, suc, ◌+◌, ◌-◌, ◌≤◌, ◌<◌}
 use native.Mathlib.Omega.{arith}
 use borrow.Author.Tests.{eqb-true, leb-true, le-leb, lt-leb}
-use lib.Dec.{leb}
+use lib.Dec.{eqb, leb}
 use lib.ListN.{length, get_or, take, drop, length-append, length-drop}
 use lib.Seq.{length-take-le, take_at, get_or_at}
 use Rattle.numbers.specs.Numbers.{none, unless, first_met}
@@ -62,6 +62,15 @@ module _ {c : List ℕ} {end : ℕ} where
       let behind = (last-ends w).behind in
       let all = w.inside in
       record { inside = omega arith; reached = (both (record_ends c end) (reaches c n (begins c end)) w.reached).1 }
+
+-- the loop: with one left the walk goes on where a record ends, and with none it is to be at place 0
+module _ (c : List ℕ) (end : ℕ) where
+  pub one_less : (left : ℕ) → 0 < left → reaches c left end ≡ (record_ends c end && reaches c (left - 1) (begins c end))
+  one_less zero h = absurd (omega arith)
+  one_less (suc n) h = let less : suc n - 1 ≡ n = omega arith in rw less
+
+  pub none_left : (left : ℕ) → left ≤ 0 → reaches c left end ≡ eqb end 0
+  none_left left h = let none : left ≡ 0 = omega arith in rw none
 
 -- ---- their frames
 

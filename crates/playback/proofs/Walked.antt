@@ -94,6 +94,13 @@ module _ (gives : ℕ → Given) (t : List ℤ) (settled : List Bool) (place : �
           value ∙ sym (ap (λ (g : Given). later g (only place gives i)) value)
       by i false q = sym (ap (later (known t settled i)) (other i (eqb-false i place q)) ∙ later-none (known t settled i))
 
+  pub one-not-given : gives place ≡ Nothing → Settles (only place gives) t settled t settled
+  one-not-given e = stays (only place gives) s (λ i h. by i (eqb i place) refl)
+    where
+      by : (i : ℕ) (b : Bool) → eqb i place ≡ b → only place gives i ≡ Nothing
+      by i true q = this i (eqb-true i place q) ∙ ap gives (eqb-true i place q) ∙ e
+      by i false q = other i (eqb-false i place q)
+
   pub one-given : (v : ℤ) → place < items → get_or settled place false ≡ false → gives place ≡ Value v
       → Settles (only place gives) t settled (set t place v) (set settled place true)
   one-given v p u e =
@@ -153,6 +160,12 @@ below_next gives place i = by (ltb i place) refl
         let elsewhere : i ≡ place → ⊥ = λ e. omega (arith, ltb-true i place q) in
         ap (later (gives i)) (rw (ne_eqb i place elsewhere)) ∙ later-none (gives i) ∙ sym (rw first)
     by false q = here (eqb i place) refl q
+
+pub below_none : (gives : ℕ → Given) (i : ℕ) → below 0 gives i ≡ Nothing
+below_none gives i = rw (le-ltb i 0 (omega arith))
+
+pub below_all : (gives : ℕ → Given) (place i : ℕ) → i < place → below place gives i ≡ gives i
+below_all gives place i h = rw (lt-ltb i place h)
 
 -- ---- the walk back
 
