@@ -18,13 +18,13 @@ use Rattle.rtu.proofs.Replies.{frame-reply-short}
 use Rattle.rtu.proofs.Demands.{demand-1-frame}
 use Rattle.ascii.specs.Line.{acted_on}
 use Rattle.ascii.proofs.Claims.{demand-1-line, line-reply-short}
-use Rattle.panel.specs.Calls.{result, answer_in}
+use Rattle.panel.specs.Calls.{result_of, answer_in}
 use Rattle.panel.specs.Promise.{longest_reply}
 
 -- ---- a result and the answer in it
 
 -- a result holds the answer that it was made of
-answer-held : {number len r : ℕ} → number < 256 → r ≡ result number len → record { number = number; len = len } ≡ answer_in r
+answer-held : {number len r : ℕ} → number < 256 → r ≡ result_of number len → record { number = number; len = len } ≡ answer_in r
 answer-held n e = ap₂ (λ (a b : ℕ). record { number = a; len = b }) (omega arith) (omega arith)
 
 -- and is the only one that holds it
@@ -50,11 +50,11 @@ line-short call line = gives-short (line-reply-short call line)
 
 -- what the library promises of its answer is promised of the result
 pub gives-in : (r : ℕ) {o : Outcome} {before after : List ℕ} {left : List ℤ} {a : Answered} → a.number < 256
-    → r ≡ result a.number a.len → Gives o a before after left → Gives o (answer_in r) before after left
+    → r ≡ result_of a.number a.len → Gives o a before after left → Gives o (answer_in r) before after left
 gives-in r {o} {before} {after} {left} n e = subst (λ (x : Answered). Gives o x before after left) (answer-held n e)
 
 module _ {call : Call} {after : List ℕ} {left : List ℤ} (r : ℕ) where
-  pub acts-in : {frame : List ℕ} {a : Answered} → a.number < 256 → r ≡ result a.number a.len
+  pub acts-in : {frame : List ℕ} {a : Answered} → a.number < 256 → r ≡ result_of a.number a.len
       → Acts call frame a after left → Acts call frame (answer_in r) after left
   acts-in {frame} n e = subst (λ (x : Answered). Acts call frame x after left) (answer-held n e)
 

@@ -31,7 +31,7 @@ write_text =
     record { asks_nothing = λ κs a. tt; single = λ κs a o u p q. (lent-single p q).0 & refl & refl & (lent-single p q).1 & refl }
 
 -- a step: the result, the state and the buffer
-step-single : {step : Step} {r q : ℕ} {s held kept before after other : List ℕ} → StepLeft step r s held before after
+pub step-single : {step : Step} {r q : ℕ} {s held kept before after other : List ℕ} → StepLeft step r s held before after
     → StepLeft step q s kept before other → (r ≡ q) × (held ≡ kept) × (after ≡ other)
 step-single x y = (single x.given y.given, single x.holds y.holds, single x.sent y.sent)
 

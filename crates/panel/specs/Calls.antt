@@ -13,8 +13,8 @@ use Rattle.modbus.specs.declared.Answered.{Answered}
 use Rattle.state.specs.State.{is_state, packed, packed_into}
 
 -- the number and the length of the reply in one
-abbrev pub result : ℕ → ℕ → ℕ
-result number len = number + 256 * len
+abbrev pub result_of : ℕ → ℕ → ℕ
+result_of number len = number + 256 * len
 
 -- the two taken out of it again
 abbrev pub answer_in : ℕ → Answered

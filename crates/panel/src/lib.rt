@@ -15,7 +15,7 @@ ghost use Rattle.rtu.specs.Promise.{Acts};
 ghost use Rattle.ascii.specs.Line.{acted_on};
 ghost use Rattle.capture.specs.Show.{Shows};
 ghost use Rattle.playback.specs.Playback.{play_number, played};
-ghost use Rattle.panel.specs.Calls.{result, answer_in, is_call_fault, link_start_number, link_start, text_number, text_left};
+ghost use Rattle.panel.specs.Calls.{result_of, answer_in, is_call_fault, link_start_number, link_start, text_number, text_left};
 ghost use Rattle.panel.specs.Promise.{longest_reply, Holdable, Held, StepLeft, ByteLeft, Told};
 
 use rkc::{Link, Stepped};
@@ -28,7 +28,7 @@ const BAD_STATE: u32 = 5;
 
 // Whether a number is one of those that hand the state back as it came.
 fn is_call_fault(number: u8) -> bool
-    ensures* { λ r. ⌜ r ≡ is_call_fault number ⌝ }
+    ensures { result ≡ is_call_fault number }
 {
     match number {
         1..=5 => true,
@@ -39,7 +39,7 @@ fn is_call_fault(number: u8) -> bool
 // The number and the length of the reply in one.
 fn result(number: u8, len: usize) -> u32
     requires { len ≤ longest_reply }
-    ensures* { λ r. ⌜ r ≡ result number len ⌝ }
+    ensures { result ≡ result_of number len }
 {
     number as u32 + 256 * (len as u32)
 }
@@ -47,7 +47,7 @@ fn result(number: u8, len: usize) -> u32
 // The state is held again, unless the call had a fault.
 fn hold(state: &mut [u8], stepped: Stepped) -> u32
     requires { Holdable stepped state.old }
-    ensures* { λ r. ⌜ Held stepped r state.old state.new ⌝ }
+    ensures { Held stepped result state.old state.new }
 {
     let link = stepped.link;
     if is_call_fault(stepped.number) {
@@ -60,18 +60,16 @@ fn hold(state: &mut [u8], stepped: Stepped) -> u32
 // ---- the functions
 
 // Every item takes its start value.
-#[unsafe(no_mangle)]
-pub extern "C" fn vb_start_table(table: &mut [i32]) -> u32
-    ensures* { λ r. ⌜ Lent (start_number table.old) (start_table table.old) r table.new ⌝ }
+pub fn vb_start_table(table: &mut [i32]) -> u32
+    ensures { Lent (start_number table.old) (start_table table.old) result table.new }
 {
     table::start(table) as u32
 }
 
 // The link starts at rest.
-#[unsafe(no_mangle)]
-pub extern "C" fn vb_start_link(state: &mut [u8]) -> u32
-    ensures* { λ r. ⌜ Lent (link_start_number state.old) (link_start state.old)
-        r state.new ⌝ }
+pub fn vb_start_link(state: &mut [u8]) -> u32
+    ensures { Lent (link_start_number state.old) (link_start state.old)
+        result state.new }
 {
     if state.len() != state::STATE_BYTES {
         return BAD_STATE;
@@ -81,8 +79,7 @@ pub extern "C" fn vb_start_link(state: &mut [u8]) -> u32
 }
 
 // One received byte of the RKC line.
-#[unsafe(no_mangle)]
-pub extern "C" fn vb_byte(
+pub fn vb_byte(
     state: &mut [u8],
     table: &mut [i32],
     reply: &mut [u8],
@@ -91,7 +88,7 @@ pub extern "C" fn vb_byte(
     time: u32,
     byte: u8,
 ) -> u32
-    ensures* { λ r. ⌜ ByteLeft (received (record {
+    ensures { ByteLeft (received (record {
       link = unpacked state.old;
       table = table.old;
       buffer = reply.old;
@@ -99,7 +96,7 @@ pub extern "C" fn vb_byte(
       structure = structure;
       time = time;
       byte = byte;
-    })) r state.old state.new reply.old reply.new table.new ⌝ }
+    })) result state.old state.new reply.old reply.new table.new }
 {
     let link = state::unpack(&state[..]);
     let stepped = link.byte(table, reply, address, structure, time, byte);
@@ -107,14 +104,13 @@ pub extern "C" fn vb_byte(
 }
 
 // No byte of the RKC line came.
-#[unsafe(no_mangle)]
-pub extern "C" fn vb_idle(state: &mut [u8], reply: &mut [u8], structure: u8, time: u32) -> u32
-    ensures* { λ r. ⌜ StepLeft (idled (record {
+pub fn vb_idle(state: &mut [u8], reply: &mut [u8], structure: u8, time: u32) -> u32
+    ensures { StepLeft (idled (record {
       link = unpacked state.old;
       buffer = reply.old;
       structure = structure;
       time = time;
-    })) r state.old state.new reply.old reply.new ⌝ }
+    })) result state.old state.new reply.old reply.new }
 {
     let link = state::unpack(&state[..]);
     let stepped = link.idle(reply, structure, time);
@@ -122,42 +118,38 @@ pub extern "C" fn vb_idle(state: &mut [u8], reply: &mut [u8], structure: u8, tim
 }
 
 // One RTU frame.
-#[unsafe(no_mangle)]
-pub extern "C" fn vb_rtu(table: &mut [i32], reply: &mut [u8], address: u8, frame: &[u8]) -> u32
-    ensures* { λ r. ⌜ Acts (record { table = table.entry.now; buffer = reply.old; address = address })
-        frame.now (answer_in r) reply.new table.exit.now ⌝ }
+pub fn vb_rtu(table: &mut [i32], reply: &mut [u8], address: u8, frame: &[u8]) -> u32
+    ensures { Acts (record { table = table.old; buffer = reply.old; address = address })
+        frame.now (answer_in result) reply.new table.new }
 {
     let answered = rtu::frame(table, reply, address, frame);
     result(answered.number, answered.len)
 }
 
 // One line of Modbus ASCII.
-#[unsafe(no_mangle)]
-pub extern "C" fn vb_ascii(table: &mut [i32], reply: &mut [u8], address: u8, line: &[u8]) -> u32
-    ensures* { λ r. ⌜ Gives (acted_on (record {
-      table = table.entry.now;
+pub fn vb_ascii(table: &mut [i32], reply: &mut [u8], address: u8, line: &[u8]) -> u32
+    ensures { Gives (acted_on (record {
+      table = table.old;
       buffer = reply.old;
       address = address;
-    }) line.now) (answer_in r) reply.old reply.new table.exit.now ⌝ }
+    }) line.now) (answer_in result) reply.old reply.new table.new }
 {
     let answer = ascii::line(table, reply, address, line);
     result(answer.number, answer.len)
 }
 
 // The firmware sets an item, by its number from 1.
-#[unsafe(no_mangle)]
-pub extern "C" fn vb_put(table: &mut [i32], item: u32, value: i32) -> u32
-    ensures* { λ r. ⌜ Lent (put_number table.old item value) (put_table table.old item value)
-        r table.new ⌝ }
+pub fn vb_put(table: &mut [i32], item: u32, value: i32) -> u32
+    ensures { Lent (put_number table.old item value) (put_table table.old item value)
+        result table.new }
 {
     table::put(table, item, value) as u32
 }
 
 // Number text is read.
-#[unsafe(no_mangle)]
-pub extern "C" fn vb_read_text(decimals: u8, chars: &[u8], value: &mut i32) -> u32
-    ensures* { λ r. ⌜ Lent (read_number width decimals chars.now)
-        (read_value width decimals chars.now) r value.new ⌝ }
+pub fn vb_read_text(decimals: u8, chars: &[u8], value: &mut i32) -> u32
+    ensures { Lent (read_number width decimals chars.now)
+        (read_value width decimals chars.now) result value.new }
 {
     let read = text::read(decimals, chars);
     *value = read.value();
@@ -167,7 +159,7 @@ pub extern "C" fn vb_read_text(decimals: u8, chars: &[u8], value: &mut i32) -> u
 // Six characters stand at the front.
 fn put_six(chars: &mut [u8], six: [u8; 6])
     requires { width ≤ length chars.old }
-    ensures* { λ r. ⌜ chars.new ≡ sets chars.old 0 six ⌝ }
+    ensures { chars.new ≡ sets chars.old 0 six }
 {
     chars[0] = six[0];
     chars[1] = six[1];
@@ -178,10 +170,9 @@ fn put_six(chars: &mut [u8], six: [u8; 6])
 }
 
 // Number text is written, where there is room for six characters.
-#[unsafe(no_mangle)]
-pub extern "C" fn vb_write_text(decimals: u8, value: i32, chars: &mut [u8]) -> u32
-    ensures* { λ r. ⌜ Lent (text_number decimals value chars.old)
-        (text_left decimals value chars.old) r chars.new ⌝ }
+pub fn vb_write_text(decimals: u8, value: i32, chars: &mut [u8]) -> u32
+    ensures { Lent (text_number decimals value chars.old)
+        (text_left decimals value chars.old) result chars.new }
 {
     if chars.len() < text::WIDTH {
         return numbers::SHORT_BUFFER as u32;
@@ -195,19 +186,17 @@ pub extern "C" fn vb_write_text(decimals: u8, value: i32, chars: &mut [u8]) -> u
 // ---- captures
 
 // A capture is played back into the table.
-#[unsafe(no_mangle)]
-pub extern "C" fn vb_playback(table: &mut [i32], address: u8, capture: &[u8]) -> u32
-    ensures* { λ r. ⌜ Lent (play_number table.old address capture.now)
-        (played table.old address capture.now) r table.new ⌝ }
+pub fn vb_playback(table: &mut [i32], address: u8, capture: &[u8]) -> u32
+    ensures { Lent (play_number table.old address capture.now)
+        (played table.old address capture.now) result table.new }
 {
     playback::play(table, address, capture) as u32
 }
 
 // A frame of a capture is shown by its place and its length.
-#[unsafe(no_mangle)]
-pub extern "C" fn vb_show(capture: &[u8], frame: u32, place: &mut u32, length: &mut u32) -> u32
-    ensures* { λ r. ⌜ Shows capture.now frame
-        (record { number = r; place = place.new; len = length.new }) ⌝ }
+pub fn vb_show(capture: &[u8], frame: u32, place: &mut u32, length: &mut u32) -> u32
+    ensures { Shows capture.now frame
+        (record { number = result; place = place.new; len = length.new }) }
 {
     let shown = capture::look_up(capture, frame);
     *place = shown.place as u32;
@@ -216,16 +205,15 @@ pub extern "C" fn vb_show(capture: &[u8], frame: u32, place: &mut u32, length: &
 }
 
 // What was last written to an item, by the value and the records that it sets; 256 more where a write was found.
-#[unsafe(no_mangle)]
-pub extern "C" fn vb_last_write(
+pub fn vb_last_write(
     capture: &[u8],
     address: u8,
     item: u32,
     value: &mut i32,
     records: &mut u32,
 ) -> u32
-    ensures* { λ r. ⌜ Told (record { address = address; item = item }) capture.now
-        r value.new records.new ⌝ }
+    ensures { Told (record { address = address; item = item }) capture.now
+        result value.new records.new }
 {
     let answer = last_write::ask(capture, address, item);
     *records = answer.records as u32;
