@@ -33,7 +33,7 @@ fn hear_all(out: &Stdout, start: Link, table: &mut [i32], bytes: &[u8]) -> Link 
 }
 
 // The link after the bytes that one read brought, and whether more may come.
-#[derive(Drop)]
+#[derive(Clone, Copy)]
 struct Heard {
     link: Link,
     more: bool,

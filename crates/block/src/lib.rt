@@ -8,7 +8,7 @@ use items::Found;
 use text::{OVER_SIX_CHARACTERS, Reading};
 
 // What becomes of a block: the item at this place of the list takes this value, or the block is refused by this number.
-#[derive(Drop)]
+#[derive(Clone, Copy)]
 pub enum Verdict {
     Store(usize, i32),
     Refuse(u8),

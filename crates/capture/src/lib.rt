@@ -26,7 +26,7 @@ const LONGEST_CAPTURE: usize = 65536;
 const LONGEST_FRAME: usize = 256;
 
 // What a look at a frame gives back: the number, 0 for none, and where the frame stands in the capture.
-#[derive(Drop)]
+#[derive(Clone, Copy)]
 pub struct Shown {
     pub number: u8,
     pub place: usize,

@@ -5,7 +5,7 @@ ghost use Rattle.std.specs.Prelude.{◌≡◌};
 ghost use Rattle.items.specs.ItemList.{line_of, item_at, identifier_of, decimals_of, listed, in_range, found, found_by_register, place_of};
 
 // What a search of the list finds: a place in it, or nothing.
-#[derive(Drop)]
+#[derive(Clone, Copy)]
 pub enum Found {
     At(usize),
     Nothing,

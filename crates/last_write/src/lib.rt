@@ -11,7 +11,7 @@ use table::NO_SUCH_ITEM;
 use writes::Given;
 
 // What an answer is: the number, 0 for none, the last value that was written, or nothing, and how many records were read.
-#[derive(Drop)]
+#[derive(Clone, Copy)]
 pub struct Answer {
     pub number: u8,
     pub written: Given,

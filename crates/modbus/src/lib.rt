@@ -14,7 +14,7 @@ use numbers::{LEAST_BUFFER, NONE, SHORT_BUFFER};
 use registers::COUNT_PLACE;
 
 // What a call hands back: the number, 0 for none, and the length of the reply.
-#[derive(Drop)]
+#[derive(Clone, Copy)]
 pub struct Answered {
     pub number: u8,
     pub len: usize,

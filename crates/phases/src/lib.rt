@@ -45,7 +45,7 @@ pub const NOT_AWAITED: u8 = 43;
 pub const LIST_ENDED: u8 = 45;
 
 // What a byte asks for.
-#[derive(Drop)]
+#[derive(Clone, Copy)]
 pub enum Act {
     // silence, and this phase with all else 0
     Go(u8),

@@ -30,7 +30,7 @@ pub const NO_NUMBER: u8 = 16;
 
 // What the characters of a number say: its value, or why they have none. Decimals: over three of them were asked for.
 // TooLong: over six characters.
-#[derive(Drop)]
+#[derive(Clone, Copy)]
 pub enum Reading {
     Value(i32),
     Decimals,
@@ -63,7 +63,7 @@ impl Reading {
 }
 
 // What a run of characters says where each of them must be a digit.
-#[derive(Drop)]
+#[derive(Clone, Copy)]
 enum Digits {
     Number(u32),
     Other,
@@ -186,7 +186,7 @@ pub fn read(decimals: u8, chars: &[u8]) -> Reading
 }
 
 // The characters of a value, or the number of a refusal and no characters.
-#[derive(Drop)]
+#[derive(Clone, Copy)]
 pub struct Written {
     pub number: u8,
     pub chars: [u8; MOST_WIDTH],

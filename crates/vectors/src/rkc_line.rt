@@ -32,7 +32,7 @@ fn hear(out: &Stdout, link: Link, table: &mut [i32], bytes: &[u8], shown: bool) 
 }
 
 // What comes of a block: the number given back, whether anything was answered, and the value that its item then has.
-#[derive(Drop)]
+#[derive(Clone, Copy)]
 struct Brought {
     number: u8,
     answered: bool,

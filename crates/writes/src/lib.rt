@@ -12,7 +12,7 @@ use numbers::NONE;
 use registers::{BODY_LENGTH, DATA_PLACE, WRONG_DATA, WRONG_REGISTER};
 
 // What is given to an item.
-#[derive(Drop)]
+#[derive(Clone, Copy)]
 pub enum Given {
     Value(i32),
     Nothing,
