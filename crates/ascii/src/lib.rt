@@ -68,6 +68,7 @@ fn put_hex(buffer: &mut [u8], at: usize, byte: u8)
 }
 
 // Whether a character is hexadecimal.
+#[tactic(auto, unfolding(crate::specs::Hexadecimal::is_hex))]
 fn is_hex(c: u8) -> bool
     ensures { result ≡ is_hex c }
 {
@@ -253,7 +254,7 @@ fn write_line(buffer: &mut [u8], n: usize) -> usize
 // A line with a fault is refused, by the caller's fault where there is one.
 fn refuse(table: &[i32], reply: &[u8], address: u8, fault: u8) -> Answered
     ensures { result ≡ record {
-      number = refusal (record { table = table.entry.now; buffer = reply.now; address = address }) fault;
+      number = refusal (record { table = table.now; buffer = reply.now; address = address }) fault;
       len = 0;
     } }
 {
@@ -268,10 +269,10 @@ fn refuse(table: &[i32], reply: &[u8], address: u8, fault: u8) -> Answered
 fn answer(table: &mut [i32], reply: &mut [u8], address: u8, bytes: &mut [u8], n: usize) -> Answered
     requires { (2 ≤ n) × (n ≤ 254) × (n + 2 ≤ length bytes.old) }
     ensures { Gives (answered_as line_of (record {
-      table = table.entry.now;
+      table = table.old;
       buffer = reply.old;
       address = address;
-    }) none (take n bytes.old)) result reply.old reply.new table.exit.now }
+    }) none (take n bytes.old)) result reply.old reply.new table.new }
 {
     let end = crc::seal(bytes, n);
     let answered = rtu::frame(table, reply, address, &bytes[..end]);
@@ -288,10 +289,10 @@ fn answer(table: &mut [i32], reply: &mut [u8], address: u8, bytes: &mut [u8], n:
 // One line, for a device with this address: the number, and the line of the reply at the buffer's front.
 pub fn line(table: &mut [i32], reply: &mut [u8], address: u8, line: &[u8]) -> Answered
     ensures { Gives (acted_on (record {
-      table = table.entry.now;
+      table = table.old;
       buffer = reply.old;
       address = address;
-    }) line.now) result reply.old reply.new table.exit.now }
+    }) line.now) result reply.old reply.new table.new }
 {
     let mut bytes = [0u8; LONGEST_FRAME];
     let n = take_apart(&mut bytes, line);

@@ -15,7 +15,7 @@ const TIME: u32 = 0;
 // How many bytes one read takes at most.
 const READ_BYTES: usize = 4096;
 
-// One byte, and its reply at once: a host that waits for it sends nothing before.
+// One byte, and its reply at once: a host that waits for it sends nothing before. A reply that can't be written is lost, as on a wire.
 fn hear(out: &Stdout, link: Link, table: &mut [i32], byte: u8) -> Link {
     let mut reply = [0u8; numbers::LEAST_BUFFER];
     let stepped = link.byte(table, &mut reply, ADDRESS, STRUCTURE, TIME, byte);

@@ -1,5 +1,5 @@
 // Lines of text on standard output, for the programs that run worked examples. Bytes, numbers, values and quotes come with a space
-// before them.
+// before them. A write that fails is passed over: whoever compares these lines compares all of them.
 #![tactic(auto)]
 
 ghost use Rattle.std.specs.Prelude.{◌<◌};
