@@ -1,9 +1,10 @@
 // One line of Modbus ASCII: it is taken apart, its message is obeyed as in RTU, and the reply goes back as such a line.
 #![tactic(auto)]
 
-ghost use Rattle.std.specs.Prelude.{◌≡◌, ◌+◌, ◌*◌, ◌<◌, ◌≤◌, true, [], ◌∷◌, length, take};
+ghost use Rattle.std.specs.Prelude.{◌≡◌, ◌+◌, ◌*◌, ◌<◌, ◌≤◌, true, [], ◌∷◌, length, take, unwrap_or};
 ghost use Rattle.std.proofs.lemmas.List.Edits.{sets};
 ghost use Rattle.numbers.specs.Numbers.{none};
+ghost use Rattle.numbers.specs.Refusals.{number_of, number_given};
 ghost use Rattle.modbus.specs.Promise.{Gives};
 ghost use Rattle.call.specs.Call.{refusal, answered_as};
 ghost use Rattle.ascii.specs.Hexadecimal.{digit_of, hex_of, is_hex, all_hex, half_of, bytes_of};
@@ -11,12 +12,7 @@ ghost use Rattle.ascii.specs.Line.{lrc_of, line_of, dropped, ends_in_cr_lf, most
 ghost use Rattle.ascii.specs.Promise.{bytes_made, bytes_behind, bytes_taken, bytes_fault, Takes, Writes};
 
 use modbus::Answered;
-use numbers::NONE;
-
-// Numbers given back, beside those of the call and of the message.
-pub const WRONG_LINE: u8 = 24;
-
-pub const WRONG_LRC: u8 = 25;
+use numbers::Refusal;
 
 // The characters at both ends of a line.
 const COLON: u8 = 0x3A;
@@ -135,18 +131,18 @@ pub fn lrc(bytes: &[u8]) -> u8
 
 // ---- a line is taken apart
 
-// How many characters the last colon drops, itself among them; 0 without a colon. The last one is found from the back.
-fn dropped(line: &[u8]) -> usize
-    ensures { result ≡ dropped line.now }
+// How many characters the last colon drops, itself among them, if there is one. It is found from the back.
+fn dropped(line: &[u8]) -> Option<usize>
+    ensures { unwrap_or result 0 ≡ dropped line.now }
 {
     let mut i = line.len();
     while 0 < i {
         if line[i - 1] == COLON {
-            return i;
+            return Some(i);
         }
         i -= 1;
     }
-    0
+    None
 }
 
 // Whether CR and LF stand at the end.
@@ -169,53 +165,50 @@ fn make_bytes(characters: &[u8]) -> bool
     right && all_hex(characters)
 }
 
-// The bytes of a line go to the buffer's front, and their number is handed back, 0 where the line's form is wrong. So it is for the
+// The bytes of a line go to the buffer's front, and their number is handed back, unless the line's form is wrong. So it is for the
 // characters between, for what stands behind the last colon, and for the line.
-fn take_characters(bytes: &mut [u8], characters: &[u8]) -> usize
+fn take_characters(bytes: &mut [u8], characters: &[u8]) -> Option<usize>
     requires { most ≤ length bytes.old }
-    ensures { Takes (bytes_made characters.now) bytes.new result }
+    ensures { Takes (bytes_made characters.now) bytes.new (unwrap_or result 0) }
 {
     if !make_bytes(characters) {
-        return 0;
+        return None;
     }
     put_bytes(bytes, characters);
-    characters.len() / 2
+    Some(characters.len() / 2)
 }
 
-fn take_rest(bytes: &mut [u8], rest: &[u8]) -> usize
+fn take_rest(bytes: &mut [u8], rest: &[u8]) -> Option<usize>
     requires { most ≤ length bytes.old }
-    ensures { Takes (bytes_behind rest.now) bytes.new result }
+    ensures { Takes (bytes_behind rest.now) bytes.new (unwrap_or result 0) }
 {
     if !ends_in_cr_lf(rest) {
-        return 0;
+        return None;
     }
     let n = rest.len() - 2;
     take_characters(bytes, &rest[..n])
 }
 
-fn take_apart(bytes: &mut [u8], line: &[u8]) -> usize
+fn take_apart(bytes: &mut [u8], line: &[u8]) -> Option<usize>
     requires { most ≤ length bytes.old }
-    ensures { Takes (bytes_taken line.now) bytes.new result }
+    ensures { Takes (bytes_taken line.now) bytes.new (unwrap_or result 0) }
 {
-    let start = dropped(line);
-    if start == 0 {
-        return 0;
-    }
+    let start = dropped(line)?;
     take_rest(bytes, &line[start..])
 }
 
-// The fault of a line by the bytes that were taken from it, 0 for none.
-fn bytes_fault(bytes: &[u8]) -> u8
-    ensures { result ≡ bytes_fault bytes.now }
+// The fault of a line by the bytes that were taken from it.
+fn bytes_fault(bytes: &[u8]) -> Result<(), Refusal>
+    ensures { number_given result ≡ bytes_fault bytes.now }
 {
     if bytes.len() == 0 {
-        return WRONG_LINE;
+        return Err(Refusal::WrongLine);
     }
     let n = bytes.len() - 1;
     if lrc(&bytes[..n]) == bytes[n] {
-        NONE
+        Ok(())
     } else {
-        WRONG_LRC
+        Err(Refusal::WrongLrc)
     }
 }
 
@@ -252,15 +245,17 @@ fn write_line(buffer: &mut [u8], n: usize) -> usize
 // ---- any line
 
 // A line with a fault is refused, by the caller's fault where there is one.
-fn refuse(table: &[i32], reply: &[u8], address: u8, fault: u8) -> Answered
+fn refuse(table: &[i32], reply: &[u8], address: u8, fault: Refusal) -> Answered
     ensures { result ≡ record {
-      number = refusal (record { table = table.now; buffer = reply.now; address = address }) fault;
+      number = refusal (record { table = table.now; buffer = reply.now; address = address }) (number_of fault);
       len = 0;
     } }
 {
-    let first = call::fault(table, reply, address);
-    let number = if first != NONE { first } else { fault };
-    Answered { number, len: 0 }
+    let met = call::fault(table, reply, address).err().unwrap_or(fault);
+    Answered {
+        number: met.number(),
+        len: 0,
+    }
 }
 
 // The message that is the first n of these bytes goes on as the frame that it would be in RTU, and the body of the reply becomes a
@@ -274,7 +269,7 @@ fn answer(table: &mut [i32], reply: &mut [u8], address: u8, bytes: &mut [u8], n:
       address = address;
     }) none (take n bytes.old)) result reply.old reply.new table.new }
 {
-    let end = crc::seal(bytes, n);
+    let end = crc::seal(bytes, n).unwrap();
     let answered = rtu::frame(table, reply, address, &bytes[..end]);
     if answered.len == 0 {
         return answered;
@@ -295,9 +290,8 @@ pub fn line(table: &mut [i32], reply: &mut [u8], address: u8, line: &[u8]) -> An
     }) line.now) result reply.old reply.new table.new }
 {
     let mut bytes = [0u8; LONGEST_FRAME];
-    let n = take_apart(&mut bytes, line);
-    let fault = bytes_fault(&bytes[..n]);
-    if fault != NONE {
+    let n = take_apart(&mut bytes, line).unwrap_or(0);
+    if let Err(fault) = bytes_fault(&bytes[..n]) {
         return refuse(&table[..], &reply[..], address, fault);
     }
     answer(table, reply, address, &mut bytes, n - 1)

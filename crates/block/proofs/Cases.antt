@@ -1,5 +1,6 @@
 -- Which verdict the numbers of a block come to: a law for each way out of `judge`.
 -- Assumes nothing.
+use Rattle.std.specs.Prelude.{Some, None}
 use mathlib.Core.Path.{◌≡◌, sym, ap, ◌∙◌}
 use mathlib.Core.Bool.{Bool, true, false, ◌||◌}
 use mathlib.Core.List.{List}
@@ -12,7 +13,6 @@ use lib.Seq.{length-take-le, take-add, drop_at}
 use Rattle.numbers.specs.Numbers.{none, first_met}
 use Rattle.line.specs.Line.{is_line_error}
 use Rattle.items.specs.ItemList.{items, item_at, found, in_range}
-use Rattle.items.specs.declared.Found.TheVariants.{At, Nothing}
 use Rattle.items.proofs.Lookup.{found-place}
 use Rattle.text.specs.Numbers.{width, over_six_characters, number_of}
 use Rattle.text.specs.Reading.{ReadAs}
@@ -32,7 +32,7 @@ data-part count kept h k =
     ∙ ap (drop identifier_length) (sym (take-add identifier_length more kept) ∙ ap (λ (n : ℕ). take n kept) e)
 
 -- the first two characters name the item at this place of the list
-module _ (kept : List ℕ) (i : ℕ) (e : found (get_or kept 0 0) (get_or kept 1 0) ≡ At i) where
+module _ (kept : List ℕ) (i : ℕ) (e : found (get_or kept 0 0) (get_or kept 1 0) ≡ Some i) where
   pub place : block_item kept ≡ i
   unfolding block_item
   place = rw e
@@ -78,7 +78,7 @@ module _ {xu : ℕ} {mark : Bool} {bcc count : ℕ} {kept : List ℕ} {c : ℕ} 
     unfolding block_number
     under-two e h = refused under_two (λ z. omega arith) (rw (heard, eq-eqb c bcc e, lt-leb identifier_length count h))
 
-    pub unknown : c ≡ bcc → identifier_length ≤ count → found (get_or kept 0 0) (get_or kept 1 0) ≡ Nothing
+    pub unknown : c ≡ bcc → identifier_length ≤ count → found (get_or kept 0 0) (get_or kept 1 0) ≡ None
         → Judges xu mark bcc count kept c (Refuse unknown_identifier)
     unfolding block_number block_item
     unknown e h n = refused unknown_identifier (λ z. omega arith) (rw (heard, eq-eqb c bcc e, le-leb identifier_length count h, n))

@@ -1,13 +1,14 @@
 -- What becomes of a whole block of the RKC line: the number that refuses it, the first of document 01's 11 to 18 that is met, or
 -- else the item that takes a value, and that value.
-use Rattle.std.specs.Prelude.{ℕ, ◌+◌, ◌≡◌, Bool, not, ◌||◌, List, [], ◌∷◌, eqb, leb, ltb, ℤ, pos, get_or, take, drop}
-use Rattle.numbers.specs.Numbers.{none, unless, first_met, unless_met}
+use Rattle.std.specs.Prelude.{ℕ, ◌+◌, ◌≡◌, Bool, not, ◌||◌, List, [], ◌∷◌, eqb, leb, ltb, ℤ, pos, get_or, take, drop, Result, Ok, Err}
+use Rattle.numbers.specs.declared.Refusal.{Refusal}
+use Rattle.numbers.specs.Numbers.{unless, first_met, unless_met}
+use Rattle.numbers.specs.Refusals.{number_given}
 use Rattle.line.specs.Line.{is_line_error}
 use Rattle.items.specs.ItemList.{items, item_at, decimals_of, found, place_found, in_range}
 use Rattle.text.specs.Numbers.{width, over_six_characters}
 use Rattle.text.specs.Reading.{read_number, read_value}
-use Rattle.block.specs.declared.Verdict.{Verdict}
-use Rattle.block.specs.declared.Verdict.TheVariants.{Store, Refuse}
+use Rattle.block.specs.declared.Setting.{Setting}
 
 -- the numbers that refuse a block; 15 and 16, for its number text, are text's
 abbrev pub line_error : ℕ
@@ -74,21 +75,21 @@ block_number xu mark bcc count kept c = first_met (block_numbers xu mark bcc cou
 
 -- ---- the verdict
 
--- its number; the place of its item, past the list where it has none; its value, 0 where it has none
-abbrev pub verdict_number : Verdict → ℕ
-verdict_number (Store i v) = none
-verdict_number (Refuse n) = n
+-- what becomes of a block: the item at a place takes a value, or the block is refused
+abbrev pub Verdict : Type 0
+Verdict = Result Setting Refusal
 
+-- the place of its item, past the list where it has none; its value, 0 where it has none
 abbrev pub verdict_item : Verdict → ℕ
-verdict_item (Store i v) = i
-verdict_item (Refuse n) = items
+verdict_item (Ok setting) = setting.place
+verdict_item (Err refusal) = items
 
 abbrev pub verdict_value : Verdict → ℤ
-verdict_value (Store i v) = v
-verdict_value (Refuse n) = pos 0
+verdict_value (Ok setting) = setting.value
+verdict_value (Err refusal) = pos 0
 
 -- what is promised of a verdict: it has the block's number, and the block's item and value where no number is met
 pub record Judges (xu : ℕ) (mark : Bool) (bcc count : ℕ) (kept : List ℕ) (c : ℕ) (r : Verdict) : Type 0 where
-  pub number : verdict_number r ≡ block_number xu mark bcc count kept c
+  pub number : number_given r ≡ block_number xu mark bcc count kept c
   pub item : verdict_item r ≡ unless_met (block_number xu mark bcc count kept c) (λ n. items) (block_item kept)
   pub value : verdict_value r ≡ unless_met (block_number xu mark bcc count kept c) (λ n. pos 0) (block_value xu count kept)

@@ -2,9 +2,10 @@
 #![tactic(auto)]
 
 ghost use Rattle.std.specs.Prelude.{◌≡◌};
+ghost use Rattle.numbers.specs.Refusals.{number_given};
 ghost use Rattle.call.specs.Call.{is_address, call_fault};
 
-use numbers::{BAD_SETTING, LAST_ADDRESS, LEAST_BUFFER, NONE, SHORT_BUFFER};
+use numbers::{LAST_ADDRESS, LEAST_BUFFER, Refusal};
 
 // The least address that a device can have.
 const FIRST_ADDRESS: u8 = 1;
@@ -16,21 +17,18 @@ pub fn is_address(address: u8) -> bool
     (FIRST_ADDRESS <= address) & (address <= LAST_ADDRESS)
 }
 
-// The caller's fault, 0 for none.
-pub fn fault(table: &[i32], reply: &[u8], address: u8) -> u8
-    ensures { result
+// The caller's fault.
+pub fn fault(table: &[i32], reply: &[u8], address: u8) -> Result<(), Refusal>
+    ensures { number_given result
         ≡ call_fault (record { table = table.now; buffer = reply.now; address = address }) }
 {
-    let fault = table::check(table);
-    if fault != NONE {
-        return fault;
-    }
+    table::check(table)?;
     if reply.len() < LEAST_BUFFER {
-        return SHORT_BUFFER;
+        return Err(Refusal::ShortBuffer);
     }
     if is_address(address) {
-        NONE
+        Ok(())
     } else {
-        BAD_SETTING
+        Err(Refusal::BadSetting)
     }
 }

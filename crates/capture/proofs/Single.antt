@@ -5,7 +5,7 @@ use mathlib.Core.List.{List}
 use Prim.Native.Nat.{ℕ}
 use Rattle.numbers.specs.Promise.{OneOutcome, OnePart}
 use Rattle.numbers.proofs.Single.{single, ◌&◌}
-use Rattle.capture.specs.declared.Shown.{Shown}
+use Rattle.capture.specs.Show.{Shown}
 use Rattle.capture.specs.Show.{Shows}
 use Rattle.capture.proofs as capture
 use Rattle.capture.specs.contracts as contract

@@ -4,17 +4,13 @@
 
 ghost use Rattle.std.specs.Prelude.{◌≡◌, ◌+◌, ◌-◌, ◌≤◌, ◌<◌, length, take};
 ghost use Rattle.numbers.specs.Numbers.{none};
+ghost use Rattle.numbers.specs.Refusals.{number_given};
 ghost use Rattle.capture.specs.Format.{two_at, size, begins, record_ends, frame_before, PartOf, trailer_begins, count, last_place};
 ghost use Rattle.capture.specs.Format.{reaches, trailer_right, capture_fault, frames};
 ghost use Rattle.capture.specs.Recorded.{place_behind};
-ghost use Rattle.capture.specs.Show.{shown_frame, shown_place, Shows};
+ghost use Rattle.capture.specs.Show.{shown_as, shown_frame, shown_place, Shows};
 
-use numbers::NONE;
-
-// Numbers given back.
-pub const BAD_CAPTURE: u8 = 51;
-
-pub const NO_SUCH_FRAME: u8 = 52;
+use numbers::Refusal;
 
 // The lengths of a trailer, and of the number behind a frame; the most bytes of a capture, and of a frame.
 const TRAILER_LENGTH: usize = 6;
@@ -25,10 +21,9 @@ const LONGEST_CAPTURE: usize = 65536;
 
 const LONGEST_FRAME: usize = 256;
 
-// What a look at a frame gives back: the number, 0 for none, and where the frame stands in the capture.
+// Where a frame stands in a capture.
 #[derive(Clone, Copy)]
-pub struct Shown {
-    pub number: u8,
+pub struct Stretch {
     pub place: usize,
     pub len: usize,
 }
@@ -154,14 +149,14 @@ pub fn trailer_right(capture: &[u8]) -> bool
     last_place(capture) == begins(capture, trailer_begins(capture))
 }
 
-// The fault of a capture: BAD_CAPTURE, or NONE.
-pub fn fault(capture: &[u8]) -> u8
-    ensures { result ≡ capture_fault capture.now }
+// The fault of a capture.
+pub fn fault(capture: &[u8]) -> Result<(), Refusal>
+    ensures { number_given result ≡ capture_fault capture.now }
 {
     if trailer_right(capture) && reaches(capture, count(capture), trailer_begins(capture)) {
-        NONE
+        Ok(())
     } else {
-        BAD_CAPTURE
+        Err(Refusal::BadCapture)
     }
 }
 
@@ -182,30 +177,18 @@ fn end_of(capture: &[u8], frame: usize) -> usize
 }
 
 // Where a frame stands, by its number from 1.
-pub fn look_up(capture: &[u8], frame: u32) -> Shown
-    ensures { Shows capture.now frame result }
+pub fn look_up(capture: &[u8], frame: u32) -> Result<Stretch, Refusal>
+    ensures { Shows capture.now frame (shown_as result) }
 {
-    let number = fault(capture);
-    if number != NONE {
-        return Shown {
-            number,
-            place: 0,
-            len: 0,
-        };
-    }
+    fault(capture)?;
     if frame == 0 || count(capture) < frame as usize {
-        return Shown {
-            number: NO_SUCH_FRAME,
-            place: 0,
-            len: 0,
-        };
+        return Err(Refusal::NoSuchFrame);
     }
     let end = end_of(capture, frame as usize);
-    Shown {
-        number: NONE,
+    Ok(Stretch {
         place: begins(capture, end),
         len: size(capture, end),
-    }
+    })
 }
 
 // The frame itself, as a part of the capture, empty where it is refused.
@@ -213,7 +196,9 @@ pub fn show(capture: &[u8], frame: u32) -> &[u8]
     ensures { PartOf capture.entry (shown_place capture.now frame)
         (shown_frame capture.now frame) result }
 {
-    let shown = look_up(capture, frame);
+    let Ok(shown) = look_up(capture, frame) else {
+        return &capture[..0];
+    };
     let from = shown.place;
     let to = from + shown.len;
     &capture[from..to]

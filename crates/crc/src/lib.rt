@@ -1,7 +1,7 @@
 // The CRC-16 of Modbus RTU: start FFFFH, A001H, low bit first, low byte sent first.
 #![tactic(auto)]
 
-ghost use Rattle.std.specs.Prelude.{◌≡◌, ℕ, ◌+◌, ◌*◌, ◌<◌, get_or};
+ghost use Rattle.std.specs.Prelude.{◌≡◌, ℕ, ◌+◌, ◌*◌, ◌<◌, get_or, unwrap_or};
 ghost use Rattle.std.specs.Int.Bits.{bit_xor};
 ghost use Rattle.crc.specs.Crc.{shifts, crc16_of, is_right, Seals};
 
@@ -63,15 +63,15 @@ pub fn is_right(frame: &[u8]) -> bool
 }
 
 // Writes the CRC of a buffer's first n bytes behind them and hands back the length of that frame; where the buffer has no
-// room for it, nothing is written and 0 is handed back. Nothing is added to n before the test, since n may be any number.
-pub fn seal(buffer: &mut [u8], n: usize) -> usize
-    ensures { Seals buffer.old n buffer.new result }
+// room for it, nothing is written and there is no length. Nothing is added to n before the test, since n may be any number.
+pub fn seal(buffer: &mut [u8], n: usize) -> Option<usize>
+    ensures { Seals buffer.old n buffer.new (unwrap_or result 0) }
 {
     if buffer.len() < 2 || buffer.len() - 2 < n {
-        return 0;
+        return None;
     }
     let crc = crc16(&buffer[..n]);
     buffer[n] = (crc % 256) as u8;
     buffer[n + 1] = (crc / 256) as u8;
-    n + 2
+    Some(n + 2)
 }

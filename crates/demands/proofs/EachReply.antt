@@ -1,6 +1,7 @@
 -- A reply is nothing, one character, or the data reply of an item: act by act, so that a claim about every reply is shown of these
 -- three alone. None has over 11 bytes.
 -- Assumes nothing.
+use Rattle.std.specs.Prelude.{Option, Some, None}
 use mathlib.Core.Path.{◌≡◌}
 use mathlib.Core.Bool.{◌&&◌}
 use mathlib.Core.List.{List, [], ◌∷◌, map}
@@ -13,8 +14,6 @@ use Rattle.numbers.specs.Numbers.{none}
 use Rattle.numbers.proofs.Tests.{chosen}
 use Rattle.items.specs.ItemList.{decimals_of, found}
 use Rattle.table.specs.Table.{answered, xu_of}
-use Rattle.items.specs.declared.Found.{Found}
-use Rattle.items.specs.declared.Found.TheVariants.{At, Nothing}
 use Rattle.line.specs.Line.{ETX, EOT, ACK, NAK, sent, bcc}
 use Rattle.text.specs.Numbers.{width}
 use Rattle.text.proofs.Texts.{written-length}
@@ -37,9 +36,9 @@ module _ (P : List ℕ → Type 0) (structure : ℕ) (nothing : P []) (one : (c 
       (λ _. item i _ (written-length width (decimals_of (xu_of t) i) (answered t i) (omega arith)))
       (λ _. one EOT)
 
-  polled-reply : (time : ℕ) (t : List ℤ) (f : Found) → P (polled structure time t f).reply
-  polled-reply time t (At i) = item-reply time t i
-  polled-reply time t Nothing = one EOT
+  polled-reply : (time : ℕ) (t : List ℤ) (f : Option ℕ) → P (polled structure time t f).reply
+  polled-reply time t (Some i) = item-reply time t i
+  polled-reply time t None = one EOT
 
   judged-reply : (t : List ℤ) (l : Link) (c : ℕ) → P (judged structure t l c).step.reply
   judged-reply t l c =

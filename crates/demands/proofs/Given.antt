@@ -1,5 +1,6 @@
 -- The numbers that a call gives: the caller's faults, what an act gives in a good table, and that each of them is given.
 -- Assumes nothing.
+use Rattle.std.specs.Prelude.{Option, Some, None}
 use mathlib.Core.Path.{◌≡◌, refl, sym, ap, ◌∙◌}
 use mathlib.Core.Bool.{Bool, true, false, cond, ◌&&◌, ◌||◌}
 use mathlib.Core.List.{List, [], ◌∷◌}
@@ -12,8 +13,6 @@ use lib.ListN.{length}
 use Rattle.numbers.specs.Numbers.{none, unless, short_buffer, least_buffer, bad_setting}
 use Rattle.numbers.proofs.Tests.{contrary, both, chosen}
 use Rattle.numbers.proofs.Order.{each}
-use Rattle.items.specs.declared.Found.{Found}
-use Rattle.items.specs.declared.Found.TheVariants.{At, Nothing}
 use Rattle.items.specs.ItemList.{items, item_list, decimals_of, found, in_range}
 use Rattle.items.proofs.Lists.{passes_at}
 use Rattle.items.proofs.Lookup.{found-place}
@@ -105,9 +104,9 @@ module _ (l : Link) (t : List ℤ) (good : good_table t ≡ true) (structure tim
   abbrev Numbered : Act → Type 0
   Numbered x = Limited items x → one_of byte_numbers (performed l t structure time x).step.number ≡ true
 
-  polled-numbers : (a b : ℕ) (f : Found) → found a b ≡ f → one_of byte_numbers (polled structure time t f).number ≡ true
-  polled-numbers a b (At i) e = rw (always-sent i (found-place a b i e).0 structure time t good)
-  polled-numbers a b Nothing e = refl
+  polled-numbers : (a b : ℕ) (f : Option ℕ) → found a b ≡ f → one_of byte_numbers (polled structure time t f).number ≡ true
+  polled-numbers a b (Some i) e = rw (always-sent i (found-place a b i e).0 structure time t good)
+  polled-numbers a b None e = refl
 
   judged-numbers : (c : ℕ) → one_of byte_numbers (judged structure t l c).step.number ≡ true
   judged-numbers c =

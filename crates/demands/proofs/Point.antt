@@ -22,7 +22,7 @@ use Rattle.line.specs.Line.{ACK, is_line_error}
 use Rattle.text.specs.Numbers.{width, most_decimals}
 use Rattle.text.specs.Reading.{read_number, read_value}
 use Rattle.text.specs.Writing.{fits, text, write_number, written}
-use Rattle.text.specs.declared.Written.{Written}
+use Rattle.text.specs.Writing.{Written}
 use Rattle.text.specs.Demands.{without_point, RoundTrip}
 use Rattle.text.proofs.Point.{point-alone}
 use Rattle.text.proofs.RoundTrip.{demand-2}

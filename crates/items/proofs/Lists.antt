@@ -1,6 +1,7 @@
 -- Laws on lists and tests for the proofs here and in the crates above: reading a column at a place, a function's values and a test
 -- at each number below a bound, and a search by the lines that are left.
 -- Assumes nothing.
+use Rattle.std.specs.Prelude.{Some}
 use mathlib.Core.Path.{◌≡◌, refl, sym, ap, ◌∙◌}
 use mathlib.Core.Bool.{Bool, true, false, cond, ◌&&◌}
 use mathlib.Core.List.{List, [], ◌∷◌, ◌++◌, map}
@@ -13,7 +14,6 @@ use lib.Dec.{eqb, ltb}
 use lib.ListN.{length, get_or, drop, get_or-eq_default, get_or-map}
 use lib.Seq.{drop-cons}
 use Rattle.numbers.proofs.Tests.{contrary, both, chosen}
-use Rattle.items.specs.declared.Found.TheVariants.{At}
 use Rattle.items.specs.ItemList.{Item, items, map_size, item_list, no_item, item_at, lines, line_of, Sizes, first_from}
 
 -- what is read at a place inside a list does not depend on what stands past its end
@@ -96,5 +96,5 @@ sizes = record {
 
 -- a search, by the lines that are left
 pub search-turn : (p : Item → Bool) (l : List Item) (i : ℕ) → i < length l
-    → first_from i p (drop i l) ≡ cond (p (get_or l i no_item)) (At i) (first_from (i + 1) p (drop (i + 1) l))
+    → first_from i p (drop i l) ≡ cond (p (get_or l i no_item)) (Some i) (first_from (i + 1) p (drop (i + 1) l))
 search-turn p l i h = rw (add-one, drop-cons l i no_item)

@@ -1,5 +1,6 @@
 -- Looking an item up: where a search of the list ends, and what the code's table of the map holds for each register.
 -- Assumes nothing.
+use Rattle.std.specs.Prelude.{Option, Some, None}
 use mathlib.Core.Path.{◌≡◌, refl, sym, ap, ◌∙◌}
 use mathlib.Core.Bool.{Bool, true, ◌&&◌, false, cond}
 use mathlib.Core.List.{List, [], ◌∷◌}
@@ -9,8 +10,6 @@ use borrow.Author.Tests.{eqb-true, leb-true, ltb-true, ne_eqb}
 use lib.Dec.{eqb, leb, ltb}
 use lib.ListN.{get_or, length}
 use Rattle.numbers.proofs.Tests.{both}
-use Rattle.items.specs.declared.Found.{Found}
-use Rattle.items.specs.declared.Found.TheVariants.{At, Nothing}
 use Rattle.items.specs.ItemList.{Item, items, listed, map_size, item_list, no_item, item_at, first_from, named, registered, found, found_by_register, place_found, place_of}
 use Rattle.items.proofs.Lists.{values, values-at, passes_at}
 
@@ -27,7 +26,7 @@ registers-below : ℕ → List Item → Bool
 registers-below n [] = true
 registers-below n (x ∷ xs) = ltb x.register n && registers-below n xs
 
-none-past : (n r i : ℕ) (xs : List Item) → registers-below n xs ≡ true → n ≤ r → first_from i (registered r) xs ≡ Nothing
+none-past : (n r i : ℕ) (xs : List Item) → registers-below n xs ≡ true → n ≤ r → first_from i (registered r) xs ≡ None
 unfolding registers-below
 none-past n r i [] e h = refl
 none-past n r i (x ∷ xs) e h =
@@ -36,14 +35,14 @@ none-past n r i (x ∷ xs) e h =
     let other : x.register ≡ r → ⊥ = λ q. omega arith in
     rw (ne_eqb x.register r other) (none-past n r (suc i) xs p.1 h)
 
-pub nothing-past : (r : ℕ) → map_size ≤ r → found_by_register r ≡ Nothing
+pub nothing-past : (r : ℕ) → map_size ≤ r → found_by_register r ≡ None
 unfolding found_by_register registers-below
 nothing-past r h = none-past map_size r 0 item_list refl h
 
 -- ---- where a search ends
 
 -- a search ends at a place of the list whose line passes
-first_passes : (p : Item → Bool) (xs : List Item) (i j : ℕ) → first_from i p xs ≡ At j
+first_passes : (p : Item → Bool) (xs : List Item) (i j : ℕ) → first_from i p xs ≡ Some j
     → (i ≤ j) × (j < i + length xs) × (p (get_or xs (j - i) no_item) ≡ true)
 first_passes p [] i j e = absurd (let z : ◌≡◌ {A = ℕ} 0 1 = cc in omega arith)
 first_passes p (x ∷ xs) i j e = by (first_passes p xs (suc i) j) (p x) refl e
@@ -54,23 +53,23 @@ first_passes p (x ∷ xs) i j e = by (first_passes p xs (suc i) j) (p x) refl e
     there : suc i ≤ j → p (get_or xs (j - suc i) no_item) ≡ true → p (get_or (x ∷ xs) (j - i) no_item) ≡ true
     there h t = let z : j - i ≡ suc (j - suc i) = omega arith in rw z t
 
-    by : (first_from (suc i) p xs ≡ At j → (suc i ≤ j) × (j < suc i + length xs) × (p (get_or xs (j - suc i) no_item) ≡ true))
-        → (t : Bool) → p x ≡ t → cond t (At i) (first_from (suc i) p xs) ≡ At j
+    by : (first_from (suc i) p xs ≡ Some j → (suc i ≤ j) × (j < suc i + length xs) × (p (get_or xs (j - suc i) no_item) ≡ true))
+        → (t : Bool) → p x ≡ t → cond t (Some i) (first_from (suc i) p xs) ≡ Some j
         → (i ≤ j) × (j < i + length (x ∷ xs)) × (p (get_or (x ∷ xs) (j - i) no_item) ≡ true)
     by rest true t q = let z : i ≡ j = cc in (omega arith, omega arith, here z t)
     by rest false t q = let r = rest q in (omega (arith, r.0), omega (arith, r.1), there r.0 r.2)
 
-listed-passes : (p : Item → Bool) (j : ℕ) → first_from 0 p item_list ≡ At j → (j < items) × (p (item_at j) ≡ true)
+listed-passes : (p : Item → Bool) (j : ℕ) → first_from 0 p item_list ≡ Some j → (j < items) × (p (item_at j) ≡ true)
 listed-passes p j e =
     let r = first_passes p item_list 0 j e in
     let z : j - 0 ≡ j = omega arith in
     (r.1, sym (ap (λ (k : ℕ). p (item_at k)) z) ∙ r.2)
 
-pub found-place : (a b j : ℕ) → found a b ≡ At j → (j < items) × (named a b (item_at j) ≡ true)
+pub found-place : (a b j : ℕ) → found a b ≡ Some j → (j < items) × (named a b (item_at j) ≡ true)
 unfolding found
 found-place a b = listed-passes (named a b)
 
-pub found-register : (r j : ℕ) → found_by_register r ≡ At j → (j < items) × ((item_at j).register ≡ r)
+pub found-register : (r j : ℕ) → found_by_register r ≡ Some j → (j < items) × ((item_at j).register ≡ r)
 unfolding found_by_register
 found-register r j e = let q = listed-passes (registered r) j e in (q.0, eqb-true _ _ q.1)
 
@@ -87,33 +86,33 @@ module _ (r : ℕ) where
   unfolding place_of found_by_register
   place-small = by (found_by_register r) refl
     where
-      by : (f : Found) → found_by_register r ≡ f → place_found f ≤ items
-      by (At j) e = let inside = (found-register r j e).0 in omega arith
-      by Nothing e = omega arith
+      by : (f : Option ℕ) → found_by_register r ≡ f → place_found f ≤ items
+      by (Some j) e = let inside = (found-register r j e).0 in omega arith
+      by None e = omega arith
 
   pub place-past : map_size ≤ r → place_of r ≡ items
   unfolding place_of
   place-past h = ap place_found (nothing-past r h)
 
-  pub item-has : place_of r < items → At (place_of r) ≡ found_by_register r
+  pub item-has : place_of r < items → Some (place_of r) ≡ found_by_register r
   unfolding place_of
   item-has = by (found_by_register r)
     where
-      by : (f : Found) → place_found f < items → At (place_found f) ≡ f
-      by (At j) h = refl
-      by Nothing h = absurd (omega arith)
+      by : (f : Option ℕ) → place_found f < items → Some (place_found f) ≡ f
+      by (Some j) h = refl
+      by None h = absurd (omega arith)
 
   -- the item there has the register
   pub place-registered : place_of r < items → (item_at (place_of r)).register ≡ r
   place-registered h = (found-register r (place_of r) (sym (item-has h))).1
 
-  pub none_has : items ≤ place_of r → Nothing ≡ found_by_register r
+  pub none_has : items ≤ place_of r → None ≡ found_by_register r
   unfolding place_of found_by_register
   none_has = by (found_by_register r) refl
     where
-      by : (f : Found) → found_by_register r ≡ f → items ≤ place_found f → Nothing ≡ f
-      by (At j) e h = absurd (omega (arith, (found-register r j e).0))
-      by Nothing e h = refl
+      by : (f : Option ℕ) → found_by_register r ≡ f → items ≤ place_found f → None ≡ f
+      by (Some j) e h = absurd (omega (arith, (found-register r j e).0))
+      by None e h = refl
 
 -- each item is at the place of its register
 pub own-place : (i : ℕ) → i < items → place_of (item_at i).register ≡ i

@@ -1,9 +1,7 @@
 -- The item list of documents 01 and 02, and looking an item up in it. Inside, an item is known by its place in the list, from 0.
-use Rattle.std.specs.Prelude.{ℕ, suc, ◌<◌, ◌≡◌, Bool, true, false, cond, ◌&&◌, List, [], ◌∷◌, ◌++◌, eqb, leb, ltb, ℤ, pos, length, get_or}
+use Rattle.std.specs.Prelude.{ℕ, suc, ◌<◌, ◌≡◌, Bool, true, false, cond, ◌&&◌, List, [], ◌∷◌, ◌++◌, eqb, leb, ltb, ℤ, pos, length, get_or, Option, Some, None}
 use Rattle.std.specs.Int.Signed.{le_z}
 use Rattle.sign.specs.Sign.{minus}
-use Rattle.items.specs.declared.Found.{Found}
-use Rattle.items.specs.declared.Found.TheVariants.{At, Nothing}
 
 -- what the list says of an item: its identifier's two characters, register, kind, decimals or that XU gives them, limits and start value
 pub record Item : Type 0 where
@@ -98,9 +96,9 @@ unfoldable pub in_range : ℕ → ℤ → Bool
 in_range i v = from_low_to_high (item_at i) v
 
 -- the first line that passes a test, by its place; the lines left start at place i
-abbrev pub first_from : ℕ → (Item → Bool) → List Item → Found
-first_from i p [] = Nothing
-first_from i p (x ∷ xs) = cond (p x) (At i) (first_from (suc i) p xs)
+abbrev pub first_from : ℕ → (Item → Bool) → List Item → Option ℕ
+first_from i p [] = None
+first_from i p (x ∷ xs) = cond (p x) (Some i) (first_from (suc i) p xs)
 
 -- the identifier is these two characters
 abbrev pub named : ℕ → ℕ → Item → Bool
@@ -111,16 +109,16 @@ abbrev pub registered : ℕ → Item → Bool
 registered r x = eqb x.register r
 
 -- looked up by identifier, and by register
-unfoldable pub found : ℕ → ℕ → Found
+unfoldable pub found : ℕ → ℕ → Option ℕ
 found a b = first_from 0 (named a b) item_list
 
-unfoldable pub found_by_register : ℕ → Found
+unfoldable pub found_by_register : ℕ → Option ℕ
 found_by_register r = first_from 0 (registered r) item_list
 
 -- the place of the item that was found; past the list for none
-abbrev pub place_found : Found → ℕ
-place_found (At i) = i
-place_found Nothing = items
+abbrev pub place_found : Option ℕ → ℕ
+place_found (Some i) = i
+place_found None = items
 
 -- the place of the item that has a register
 unfoldable pub place_of : ℕ → ℕ

@@ -4,13 +4,6 @@
 ghost use Rattle.std.specs.Prelude.{◌≡◌};
 ghost use Rattle.items.specs.ItemList.{line_of, item_at, identifier_of, decimals_of, listed, in_range, found, found_by_register, place_of};
 
-// What a search of the list finds: a place in it, or nothing.
-#[derive(Clone, Copy)]
-pub enum Found {
-    At(usize),
-    Nothing,
-}
-
 // How many items there are.
 pub const ITEMS: usize = 13;
 
@@ -163,8 +156,8 @@ pub fn listed(number: u32) -> bool
     (1 <= number) & (number as usize <= ITEMS)
 }
 
-// The item that two characters name.
-pub fn find(a: u8, b: u8) -> Found
+// The place of the item that two characters name.
+pub fn find(a: u8, b: u8) -> Option<usize>
     ensures { result ≡ found a b }
 {
     // A constant array is laid out at each use: here once, and not at each place.
@@ -173,11 +166,11 @@ pub fn find(a: u8, b: u8) -> Found
     let mut i = 0;
     while i < ITEMS {
         if firsts[i] == a && seconds[i] == b {
-            return Found::At(i);
+            return Some(i);
         }
         i += 1;
     }
-    Found::Nothing
+    None
 }
 
 // The place of the item that has a register; past the list where none has it.
@@ -192,16 +185,12 @@ pub fn place_of(register: u16) -> usize
     PLACE_AT[line] as usize
 }
 
-// The item that has a register.
-pub fn find_register(register: u16) -> Found
+// The place of the item that has a register.
+pub fn find_register(register: u16) -> Option<usize>
     ensures { result ≡ found_by_register register }
 {
     let place = place_of(register);
-    if place < ITEMS {
-        Found::At(place)
-    } else {
-        Found::Nothing
-    }
+    if place < ITEMS { Some(place) } else { None }
 }
 
 // Whether a value is from the low to the high of the item at a place; no value is past the list.

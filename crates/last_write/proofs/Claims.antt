@@ -1,5 +1,6 @@
 -- What is claimed in specs/Claims.antt of every question to every capture.
 -- Assumes nothing.
+use Rattle.std.specs.Prelude.{Option, None}
 use mathlib.Core.Path.{◌≡◌, refl, sym, ap, ◌∙◌}
 use mathlib.Core.Bool.{Bool, true, false}
 use mathlib.Core.List.{List}
@@ -16,8 +17,6 @@ use Rattle.numbers.proofs.Order.{test-held, is-refused, is-done, either_way}
 use Rattle.items.specs.ItemList.{items, listed, item_at}
 use Rattle.items.proofs.Lookup.{listed-place}
 use Rattle.table.specs.Table.{entry, is_alarm_state, start_values}
-use Rattle.writes.specs.declared.Given.{Given}
-use Rattle.writes.specs.declared.Given.TheVariants.{Nothing}
 use Rattle.writes.specs.Writes.{is_value, over}
 use Rattle.call.specs.Call.{is_address}
 use Rattle.capture.specs.Format.{bad_capture, begins, record_ends, frame_before, trailer_begins, count, capture_fault, frames}
@@ -60,7 +59,7 @@ played-entry t address c l a fine i s h =
     ∙ handed-writes (frames c) (record { table = start_values; buffer = buffer; address = address }) (start_fine address buffer a room) i s h
 
 module _ (q : Question) (c : List ℕ) (a : is_address q.address ≡ true) (i : listed q.item ≡ true) (fine : capture_fault c ≡ none) where
-  abbrev last : Given
+  abbrev last : Option ℤ
   last = last_write q.address (frames c) (q.item - 1)
 
   answered : Answers q c (record { number = none; written = last; records = frames_read q.address (frames c) (q.item - 1) })
@@ -95,7 +94,7 @@ module _ (q : Question) (c : List ℕ) where
   -- without a number what was found is told
   found-told : ask_number q c ≡ none → last_written q c ≡ write_found q c
   unfolding last_written
-  found-told = is-done (ask_number q c) (λ number. Nothing) (write_found q c)
+  found-told = is-done (ask_number q c) (λ number. None) (write_found q c)
 
   -- and where a value is told, there is none
   told : is_value (last_written q c) ≡ true → (ask_number q c ≡ none) × (last_written q c ≡ write_found q c)
@@ -105,7 +104,7 @@ module _ (q : Question) (c : List ℕ) where
       by : (b : Bool) → eqb (ask_number q c) none ≡ b → (ask_number q c ≡ none) × (last_written q c ≡ write_found q c)
       by true e = let met = eqb-true (ask_number q c) none e in (met, found-told met)
       by false e =
-          let nothing = is-refused (ask_number q c) (λ number. Nothing) (write_found q c) (eqb-false (ask_number q c) none e) in
+          let nothing = is-refused (ask_number q c) (λ number. None) (write_found q c) (eqb-false (ask_number q c) none e) in
           contrary (sym v ∙ ap is_value nothing)
 
   -- by a record that ends there
@@ -117,15 +116,15 @@ module _ (q : Question) (c : List ℕ) where
       by false r = contrary (sym v ∙ ap is_value (no_record q c end r))
 
   -- a read-only item is written by no record
-  read-only-before : (item_at (q.item - 1)).writable ≡ false → (end : ℕ) → written_before q c end ≡ Nothing
+  read-only-before : (item_at (q.item - 1)).writable ≡ false → (end : ℕ) → written_before q c end ≡ None
   unfolding written_before
   read-only-before r end =
-      chosen (λ (g : Given). g ≡ Nothing) (record_ends c end) (λ _. read-only-writes q.address (frame_before c end) (q.item - 1) r) (λ _. refl)
+      chosen (λ (g : Option ℤ). g ≡ None) (record_ends c end) (λ _. read-only-writes q.address (frame_before c end) (q.item - 1) r) (λ _. refl)
 
   -- nothing is told that was not found
-  not-told : write_found q c ≡ Nothing → last_written q c ≡ Nothing
+  not-told : write_found q c ≡ None → last_written q c ≡ None
   unfolding last_written
-  not-told e = either_way (ask_number q c) (λ number. Nothing) (write_found q c) (λ (g : Given). g ≡ Nothing) (λ _. refl) (λ _. e)
+  not-told e = either_way (ask_number q c) (λ number. None) (write_found q c) (λ (g : Option ℤ). g ≡ None) (λ _. refl) (λ _. e)
 
 pub last-write-claimed : (q : Question) (c : List ℕ) → OfLastWrite q c
 unfolding passed_over
@@ -149,7 +148,7 @@ last-write-claimed q c =
           let a = askable q c e in
           let at = at_last q c in
           let held = test-held (undamaged q c) bad_capture (omega arith) (sym (number_by q c a) ∙ e) in
-          let none_found : write_found q c ≡ Nothing = sym (found-told q c e) ∙ nothing in
+          let none_found : write_found q c ≡ None = sym (found-told q c e) ∙ nothing in
           let all = both (eqb (stop q c) 0) (eqb (passed_over q c) (count c)) (rw none_found at held) in
           let reached = leads-back c (stopped q c).passed (trailer_begins c)
           (λ k h. (going_on q c (place_after c (trailer_begins c) k) ((stopped q c).first.before k h)).0)

@@ -1,5 +1,6 @@
 -- The walk back over a well-formed capture stops at the last of its frames that writes to the item, or has read them all.
 -- Assumes nothing.
+use Rattle.std.specs.Prelude.{Option, Some, None, ℤ}
 use mathlib.Core.Path.{◌≡◌, refl, sym, ap, ◌∙◌}
 use mathlib.Core.Bool.{Bool, true, false, cond}
 use mathlib.Core.List.{List, [], ◌∷◌, ◌++◌}
@@ -8,8 +9,6 @@ use native.Mathlib.Omega.{arith}
 use borrow.Author.Tests.{eqb-true, eq-eqb}
 use lib.ListN.{length, length-append}
 use Rattle.numbers.proofs.Tests.{contrary, both}
-use Rattle.writes.specs.declared.Given.{Given}
-use Rattle.writes.specs.declared.Given.TheVariants.{Value, Nothing}
 use Rattle.writes.specs.Writes.{is_value, later}
 use Rattle.capture.specs.Format.{begins, record_ends, frame_before, reaches, frames_to}
 use Rattle.capture.proofs.Walk.{ends, Walking, goes_on}
@@ -22,13 +21,13 @@ use Rattle.last_write.proofs.Walked.{none-at-0, by-frame, no_record}
 
 -- ---- a value or nothing
 
-no_value : (g : Given) → is_value g ≡ false → g ≡ Nothing
-no_value (Value v) e = contrary e
-no_value Nothing e = refl
+no_value : (g : Option ℤ) → is_value g ≡ false → g ≡ None
+no_value (Some v) e = contrary e
+no_value None e = refl
 
-value-later : (g before : Given) → is_value g ≡ true → later g before ≡ g
-value-later (Value v) before e = refl
-value-later Nothing before e = contrary (sym e)
+value-later : (g before : Option ℤ) → is_value g ≡ true → later g before ≡ g
+value-later (Some v) before e = refl
+value-later None before e = contrary (sym e)
 
 -- one more, whichever is chosen
 one_more : (b : Bool) (m n : ℕ) → cond b (suc m) (suc n) ≡ suc (cond b m n)
@@ -41,14 +40,14 @@ module _ (address : ℕ) (f : List ℕ) (i : ℕ) where
   last-answers : (fs : List (List ℕ)) → is_value (wrote address f i) ≡ true → last_write address (fs ++ (f ∷ [])) i ≡ wrote address f i
   last-answers fs v = last-one-more address fs f i ∙ value-later (wrote address f i) (last_write address fs i) v
 
-  last-passed : (fs : List (List ℕ)) → wrote address f i ≡ Nothing → last_write address (fs ++ (f ∷ [])) i ≡ last_write address fs i
+  last-passed : (fs : List (List ℕ)) → wrote address f i ≡ None → last_write address (fs ++ (f ∷ [])) i ≡ last_write address fs i
   last-passed fs e = last-one-more address fs f i ∙ rw e
 
   read-answers : (fs : List (List ℕ)) → is_value (wrote address f i) ≡ true → frames_read address (fs ++ (f ∷ [])) i ≡ 1
   read-answers [] v = refl
   read-answers (g ∷ fs) v = rw (last-answers fs v, v) (read-answers fs v)
 
-  read-passed : (fs : List (List ℕ)) → wrote address f i ≡ Nothing
+  read-passed : (fs : List (List ℕ)) → wrote address f i ≡ None
       → frames_read address (fs ++ (f ∷ [])) i ≡ suc (frames_read address fs i)
   read-passed [] e = refl
   read-passed (g ∷ fs) e =
@@ -59,11 +58,11 @@ module _ (address : ℕ) (f : List ℕ) (i : ℕ) where
 
 -- where it does not stop, a record ends that does not write the item
 module _ (q : Question) (c : List ℕ) (end : ℕ) where
-  pub going_on : stops_at q c end ≡ false → (record_ends c end ≡ true) × (written_before q c end ≡ Nothing)
+  pub going_on : stops_at q c end ≡ false → (record_ends c end ≡ true) × (written_before q c end ≡ None)
   going_on = by (record_ends c end) (is_value (written_before q c end)) refl refl
     where
       by : (r v : Bool) → record_ends c end ≡ r → is_value (written_before q c end) ≡ v → stops_at q c end ≡ false
-          → (record_ends c end ≡ true) × (written_before q c end ≡ Nothing)
+          → (record_ends c end ≡ true) × (written_before q c end ≡ None)
       by false v r e s = contrary (sym (rw r) ∙ s)
       by true true r e s = contrary (sym (rw (r, e)) ∙ s)
       by true false r e s = (r, no_value (written_before q c end) e)
@@ -98,7 +97,7 @@ leads-back c (suc n) end passed z =
 -- of so many records that lead back to place 0, what the one writes at which the walk stops is what the last of their frames does that
 -- writes at all, and where none does it has passed over them all
 module _ (q : Question) (c : List ℕ) where
-  abbrev last : ℕ → ℕ → Given
+  abbrev last : ℕ → ℕ → Option ℤ
   last n end = last_write q.address (frames_to c n end) (q.item - 1)
 
   pub record Agrees (n end passed : ℕ) : Type 0 where
@@ -131,7 +130,7 @@ module _ (q : Question) (c : List ℕ) where
       record {
         written = before.written ∙ sym past;
         read =
-            ap (λ (g : Given). cond (is_value g) (suc (suc passed)) (suc passed)) past
+            ap (λ (g : Option ℤ). cond (is_value g) (suc (suc passed)) (suc passed)) past
             ∙ one_more (is_value (last n (begins c end))) (suc passed) passed
             ∙ ap suc before.read
             ∙ sym (read-passed q.address (frame_before c end) (q.item - 1) (frames_to c n (begins c end)) none);

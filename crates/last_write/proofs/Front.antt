@@ -1,5 +1,6 @@
 -- Two captures that have the same records from the answering one on: the walk back over the one is that over the other.
 -- Assumes nothing.
+use Rattle.std.specs.Prelude.{Option}
 use mathlib.Core.Path.{◌≡◌, sym, ap, ◌∙◌}
 use mathlib.Core.Bool.{true}
 use mathlib.Core.List.{List}
@@ -10,7 +11,6 @@ use borrow.Author.Tests.{le-leb}
 use lib.ListN.{length, get_or, take, drop, length-take, length-drop}
 use lib.Seq.{get_or-take, get_or-drop, drop-drop, ext_get_or}
 use Rattle.numbers.specs.Numbers.{none}
-use Rattle.writes.specs.declared.Given.{Given}
 use Rattle.writes.specs.Writes.{is_value}
 use Rattle.capture.specs.Format.{longest_frame, two_at, size, begins, record_ends, frame_before, trailer_begins}
 use Rattle.capture.proofs.Walk.{ends}
@@ -158,7 +158,7 @@ module _ (q : Question) (c d : List ℕ) (n o : ℕ) (first : Earliest (λ k. st
       }
 
   -- so the other walk gets the same answer, after as many records
-  pub answered-alike : Askable q d → {g : Given} → g ≡ written_before q c (place_after c (trailer_begins c) n) → is_value g ≡ true
+  pub answered-alike : Askable q d → {g : Option ℤ} → g ≡ written_before q c (place_after c (trailer_begins c) n) → is_value g ≡ true
       → Answers q d (record { number = none; written = g; records = n + 1 })
   answered-alike a e v =
       let b = beside n (omega arith) in

@@ -5,7 +5,7 @@ use mathlib.Core.List.{List}
 use Prim.Native.Nat.{ℕ}
 use Rattle.numbers.specs.Promise.{OneOutcome}
 use Rattle.numbers.proofs.Single.{single, ◌&◌}
-use Rattle.last_write.specs.declared.Answer.{Answer}
+use Rattle.last_write.specs.LastWrite.{Answer}
 use Rattle.last_write.specs.LastWrite.{Question, Answers}
 use Rattle.last_write.proofs as last_write
 use Rattle.last_write.specs.contracts as contract

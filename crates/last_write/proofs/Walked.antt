@@ -1,5 +1,6 @@
 -- The walk back as far as it has come, and the answer where it stops.
 -- Assumes nothing.
+use Rattle.std.specs.Prelude.{Option, None, ℤ}
 use mathlib.Core.Path.{◌≡◌, refl, sym, ap, ◌∙◌}
 use mathlib.Core.Bool.{true, false, cond, ◌&&◌, and-false}
 use mathlib.Core.List.{List}
@@ -15,8 +16,6 @@ use Rattle.numbers.proofs.Tests.{chosen}
 use Rattle.numbers.proofs.Order.{last-met, passed, is-refused, is-done, either_way}
 use Rattle.items.specs.ItemList.{listed}
 use Rattle.table.specs.Table.{no_such_item}
-use Rattle.writes.specs.declared.Given.{Given}
-use Rattle.writes.specs.declared.Given.TheVariants.{Nothing}
 use Rattle.writes.specs.Writes.{is_value}
 use Rattle.call.specs.Call.{is_address}
 use Rattle.capture.specs.Format.{bad_capture, longest_capture, longest_frame, size_bytes, size, begins, record_ends, frame_before}
@@ -46,7 +45,7 @@ module _ (q : Question) (c : List ℕ) (end : ℕ) where
   unfolding written_before
   by-frame r = rw r
 
-  pub no_record : record_ends c end ≡ false → written_before q c end ≡ Nothing
+  pub no_record : record_ends c end ≡ false → written_before q c end ≡ None
   unfolding written_before
   no_record r = rw r
 
@@ -63,7 +62,7 @@ module _ (q : Question) (c : List ℕ) where
   walk-starts e = record { here = e; few = omega arith; passed = λ k h. absurd (omega arith) }
 
   pub walk-on : {n end place : ℕ} → Walked n end → place ≡ begins c end → record_ends c end ≡ true
-      → wrote q.address (frame_before c end) (q.item - 1) ≡ Nothing → Walked (n + 1) place
+      → wrote q.address (frame_before c end) (q.item - 1) ≡ None → Walked (n + 1) place
   walk-on {n} {end} {place} w p r e =
       let behind = (ends c end r).behind in
       let few = w.few in
@@ -88,7 +87,7 @@ no_answer q c e h =
     let met : ask_number q c ≡ none → ⊥ = λ z. h (sym e ∙ z) in
     record {
       given = sym e;
-      written = sym (is-refused (ask_number q c) (λ number. Nothing) (write_found q c) met);
+      written = sym (is-refused (ask_number q c) (λ number. None) (write_found q c) met);
       read = sym (is-refused (ask_number q c) (λ number. 0) (distance q c) met);
     }
 
@@ -132,14 +131,14 @@ module _ (q : Question) (c : List ℕ) (a : Askable q c) where
   number_by = rw (a.address, a.item, a.trailer) (last-met _)
 
   -- it has met no damage, and this is told
-  pub is-answer : {g : Given} {n : ℕ} → undamaged q c ≡ true → write_found q c ≡ g
+  pub is-answer : {g : Option ℤ} {n : ℕ} → undamaged q c ≡ true → write_found q c ≡ g
       → cond (is_value g) (suc (passed_over q c)) (passed_over q c) ≡ n → Answers q c (record { number = none; written = g; records = n })
   unfolding last_written records_read
   is-answer u f r =
       let met : ask_number q c ≡ none = number_by ∙ rw u in
       record {
         given = sym met;
-        written = sym (is-done (ask_number q c) (λ number. Nothing) (write_found q c) met ∙ f);
+        written = sym (is-done (ask_number q c) (λ number. None) (write_found q c) met ∙ f);
         read = sym (is-done (ask_number q c) (λ number. 0) (distance q c) met ∙ rw f r);
       }
 
@@ -153,7 +152,7 @@ module _ (q : Question) (c : List ℕ) (a : Askable q c) where
         (at.0, at.1 ∙ sym w.here)
 
     -- a frame answers
-    pub frame-answers : record_ends c end ≡ true → {g : Given} → g ≡ wrote q.address (frame_before c end) (q.item - 1) → is_value g ≡ true
+    pub frame-answers : record_ends c end ≡ true → {g : Option ℤ} → g ≡ wrote q.address (frame_before c end) (q.item - 1) → is_value g ≡ true
         → Answers q c (record { number = none; written = g; records = n + 1 })
     frame-answers r {g} e v =
         let there = by-frame q c end r ∙ sym e in
@@ -166,11 +165,11 @@ module _ (q : Question) (c : List ℕ) (a : Askable q c) where
       at-end : (passed_over q c ≡ n) × (stop q c ≡ end)
       at-end = stops-here (rw r)
 
-      nothing : write_found q c ≡ Nothing
+      nothing : write_found q c ≡ None
       nothing = ap (written_before q c) at-end.1 ∙ no_record q c end r
 
       pub meets-damage : (eqb end 0 && eqb n (count c)) ≡ false → Answers q c (refused_by bad_capture)
       meets-damage other = no_answer q c (number_by ∙ rw (nothing, at-end.0, at-end.1, other)) (λ z. omega arith)
 
-      pub all_read : (eqb end 0 && eqb n (count c)) ≡ true → Answers q c (record { number = none; written = Nothing; records = n })
+      pub all_read : (eqb end 0 && eqb n (count c)) ≡ true → Answers q c (record { number = none; written = None; records = n })
       all_read all = is-answer (rw (nothing, at-end.0, at-end.1, all)) nothing at-end.0

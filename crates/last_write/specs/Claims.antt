@@ -1,9 +1,8 @@
 -- What is claimed of an answer beside its promise.
-use Rattle.std.specs.Prelude.{ℕ, suc, ◌-◌, ◌≤◌, ◌≡◌, true, false, cond, List, [], ◌∷◌, ℤ, length, take, drop}
+use Rattle.std.specs.Prelude.{ℕ, suc, ◌-◌, ◌≤◌, ◌≡◌, true, false, cond, List, [], ◌∷◌, ℤ, length, take, drop, None}
 use Rattle.numbers.specs.Numbers.{none}
 use Rattle.items.specs.ItemList.{items, listed, item_at}
 use Rattle.table.specs.Table.{entry, is_alarm_state, start_values}
-use Rattle.writes.specs.declared.Given.TheVariants.{Nothing}
 use Rattle.writes.specs.Writes.{is_value, over}
 use Rattle.call.specs.Call.{is_address}
 use Rattle.capture.specs.Format.{begins, trailer_begins, trailer_right, capture_fault, frames}
@@ -41,9 +40,9 @@ pub record OfLastWrite (q : Question) (c : List ℕ) : Type 0 where
       → records_from place d ≡ records_from (begins c (stop q c)) c
       → (ask_number q d ≡ ask_number q c) × (last_written q d ≡ last_written q c) × (records_read q d ≡ records_read q c)
   -- never written is said of well-formed captures alone
-  pub never_is_whole : ask_number q c ≡ none → last_written q c ≡ Nothing → capture_fault c ≡ none
+  pub never_is_whole : ask_number q c ≡ none → last_written q c ≡ None → capture_fault c ≡ none
   -- a read-only item is never written
-  pub read_only_never : (item_at (q.item - 1)).writable ≡ false → last_written q c ≡ Nothing
+  pub read_only_never : (item_at (q.item - 1)).writable ≡ false → last_written q c ≡ None
   -- the walk stops within as many records as the capture has bytes: a search that goes on further finds no other place
   pub stops_in_time : (bound : ℕ) → length c ≤ bound
       → first_below bound (λ n. stops_at q c (place_after c (trailer_begins c) n)) ≡ passed_over q c

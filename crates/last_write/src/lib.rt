@@ -3,78 +3,58 @@
 #![tactic(auto)]
 
 ghost use Rattle.std.specs.Prelude.{◌≡◌};
-ghost use Rattle.last_write.specs.LastWrite.{Answers, Askable, refused_by};
+ghost use Rattle.last_write.specs.LastWrite.{Answers, Askable, answer_as};
 
-use capture::BAD_CAPTURE;
-use numbers::{BAD_SETTING, NONE};
-use table::NO_SUCH_ITEM;
-use writes::Given;
+use numbers::Refusal;
 
-// What an answer is: the number, 0 for none, the last value that was written, or nothing, and how many records were read.
+// What the walk finds: the last value that was written, if any was, and how many records were read.
 #[derive(Clone, Copy)]
-pub struct Answer {
-    pub number: u8,
-    pub written: Given,
+pub struct LastWrite {
+    pub written: Option<i32>,
     pub records: usize,
 }
 
-// A refusal: nothing was found, and nothing is said to be read.
-fn refused(number: u8) -> Answer
-    ensures { result ≡ refused_by number }
-{
-    Answer {
-        number,
-        written: Given::Nothing,
-        records: 0,
-    }
-}
-
 // The walk back. Each record is looked at before its frame, and the count only once place 0 is reached.
-fn walk(capture: &[u8], address: u8, item: u32) -> Answer
+fn walk(capture: &[u8], address: u8, item: u32) -> Result<LastWrite, Refusal>
     requires { Askable (record { address = address; item = item }) capture.now }
-    ensures { Answers (record { address = address; item = item }) capture.now result }
+    ensures { Answers (record { address = address; item = item }) capture.now (answer_as result) }
 {
     let place = item as usize - 1;
     let mut records = 0;
     let mut end = capture::trailer_begins(capture);
     while 0 < end {
         if !capture::record_ends(capture, end) {
-            return refused(BAD_CAPTURE);
+            return Err(Refusal::BadCapture);
         }
         records += 1;
         let written = playback::wrote(address, capture::frame_before(capture, end), place);
-        if let Given::Value(_) = written {
-            return Answer {
-                number: NONE,
-                written,
-                records,
-            };
+        if written.is_some() {
+            return Ok(LastWrite { written, records });
         }
         end = capture::begins(capture, end);
     }
     if records == capture::count(capture) {
-        Answer {
-            number: NONE,
-            written: Given::Nothing,
+        Ok(LastWrite {
+            written: None,
             records,
-        }
+        })
     } else {
-        refused(BAD_CAPTURE)
+        Err(Refusal::BadCapture)
     }
 }
 
 // What was last written to an item, by its number from 1, for a device with this address.
-pub fn ask(capture: &[u8], address: u8, item: u32) -> Answer
-    ensures { Answers (record { address = address; item = item }) capture.now result }
+pub fn ask(capture: &[u8], address: u8, item: u32) -> Result<LastWrite, Refusal>
+    ensures { Answers (record { address = address; item = item }) capture.now (answer_as result) }
 {
     if !call::is_address(address) {
-        return refused(BAD_SETTING);
+        return Err(Refusal::BadSetting);
     }
     if !items::listed(item) {
-        return refused(NO_SUCH_ITEM);
+        return Err(Refusal::NoSuchItem);
     }
     if !capture::trailer_right(capture) {
-        return refused(BAD_CAPTURE);
+        return Err(Refusal::BadCapture);
     }
     walk(capture, address, item)
 }

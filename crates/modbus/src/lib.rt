@@ -4,13 +4,14 @@
 ghost use Rattle.std.specs.Prelude.{◌≡◌, List, ◌+◌, ◌*◌, ◌≤◌, ◌<◌, ℤ, length};
 ghost use Rattle.std.proofs.lemmas.List.Edits.{sets};
 ghost use Rattle.numbers.specs.Numbers.{none, least_buffer};
+ghost use Rattle.numbers.specs.Refusals.{number_of};
 ghost use Rattle.registers.specs.Register.{registers_from};
 ghost use Rattle.registers.specs.Faults.{read_fault};
 ghost use Rattle.modbus.specs.Outcome.{top_bit_set, exception_reply};
 ghost use Rattle.modbus.specs.Rules.{read_reply, reading, writing, writing_several, looping_back, obeying, ours, acted_within};
 ghost use Rattle.modbus.specs.Promise.{Ready, Sends, Gives};
 
-use numbers::{LEAST_BUFFER, NONE, SHORT_BUFFER};
+use numbers::{LEAST_BUFFER, NONE, Refusal};
 use registers::COUNT_PLACE;
 
 // What a call hands back: the number, 0 for none, and the length of the reply.
@@ -19,11 +20,6 @@ pub struct Answered {
     pub number: u8,
     pub len: usize,
 }
-
-// Numbers given back.
-pub const OTHER_ADDRESS: u8 = 23;
-
-pub const UNKNOWN_FUNCTION: u8 = 31;
 
 // The bytes at the front of every message: its address and its function.
 const HEAD_LENGTH: usize = 2;
@@ -51,11 +47,12 @@ fn top_bit_set(function: u8) -> u8
 }
 
 // The exception that goes with a number: 31, 32 and 33 are exceptions 1, 2 and 3.
-fn exception(reply: &mut [u8], body: &[u8], number: u8) -> Answered
-    requires { Ready reply.old body.now × (30 ≤ number) }
-    ensures { Sends number (exception_reply body.now number)
+fn exception(reply: &mut [u8], body: &[u8], refusal: Refusal) -> Answered
+    requires { Ready reply.old body.now × (30 ≤ number_of refusal) }
+    ensures { Sends (number_of refusal) (exception_reply body.now (number_of refusal))
         result reply.old reply.new }
 {
+    let number = refusal.number();
     reply[0] = body[0];
     reply[1] = top_bit_set(body[1]);
     reply[2] = number - 30;
@@ -118,9 +115,8 @@ fn read(table: &[i32], reply: &mut [u8], body: &[u8]) -> Answered
     ensures { Gives (reading table.now body.now)
         result reply.old reply.new table.now }
 {
-    let fault = registers::read_fault(body);
-    if fault != NONE {
-        return exception(reply, body, fault);
+    if let Err(refusal) = registers::read_fault(body) {
+        return exception(reply, body, refusal);
     }
     send_registers(table, reply, body)
 }
@@ -133,9 +129,8 @@ fn write(table: &mut [i32], reply: &mut [u8], body: &[u8]) -> Answered
     ensures { Gives (writing table.old body.now)
         result reply.old reply.new table.new }
 {
-    let fault = writes::write_one(table, body);
-    if fault != NONE {
-        return exception(reply, body, fault);
+    if let Err(refusal) = writes::write_one(table, body) {
+        return exception(reply, body, refusal);
     }
     echo(reply, body)
 }
@@ -148,9 +143,8 @@ fn loop_back(reply: &mut [u8], body: &[u8]) -> Answered
     ensures { (t : List ℤ) → Gives (looping_back t body.now)
         result reply.old reply.new t }
 {
-    let fault = registers::loopback_fault(body);
-    if fault != NONE {
-        return exception(reply, body, fault);
+    if let Err(refusal) = registers::loopback_fault(body) {
+        return exception(reply, body, refusal);
     }
     echo(reply, body)
 }
@@ -163,9 +157,8 @@ fn write_several(table: &mut [i32], reply: &mut [u8], body: &[u8]) -> Answered
     ensures { Gives (writing_several table.old body.now)
         result reply.old reply.new table.new }
 {
-    let fault = writes::write_several(table, body);
-    if fault != NONE {
-        return exception(reply, body, fault);
+    if let Err(refusal) = writes::write_several(table, body) {
+        return exception(reply, body, refusal);
     }
     echo(reply, &body[..COUNT_PLACE])
 }
@@ -184,15 +177,18 @@ fn obey(table: &mut [i32], reply: &mut [u8], body: &[u8]) -> Answered
         WRITE_REGISTER => write(table, reply, body),
         LOOPBACK => loop_back(reply, body),
         WRITE_SEVERAL => write_several(table, reply, body),
-        _ => exception(reply, body, UNKNOWN_FUNCTION),
+        _ => exception(reply, body, Refusal::UnknownFunction),
     }
 }
 
 // Nothing is sent.
-fn silent(number: u8) -> Answered
-    ensures { result ≡ record { number = number; len = 0 } }
+fn silent(refusal: Refusal) -> Answered
+    ensures { result ≡ record { number = number_of refusal; len = 0 } }
 {
-    Answered { number, len: 0 }
+    Answered {
+        number: refusal.number(),
+        len: 0,
+    }
 }
 
 // Whether a message has an address and a function, and the address is ours.
@@ -208,11 +204,11 @@ pub fn respond(table: &mut [i32], reply: &mut [u8], address: u8, body: &[u8]) ->
         result reply.old reply.new table.new }
 {
     if reply.len() < LEAST_BUFFER {
-        return silent(SHORT_BUFFER);
+        return silent(Refusal::ShortBuffer);
     }
     if ours(address, body) {
         obey(table, reply, body)
     } else {
-        silent(OTHER_ADDRESS)
+        silent(Refusal::OtherAddress)
     }
 }

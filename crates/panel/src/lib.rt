@@ -18,11 +18,10 @@ ghost use Rattle.playback.specs.Playback.{play_number, played};
 ghost use Rattle.panel.specs.Calls.{result_of, answer_in, is_call_fault, link_start_number, link_start, text_number, text_left};
 ghost use Rattle.panel.specs.Promise.{longest_reply, Holdable, Held, StepLeft, ByteLeft, Told};
 
+use capture::Stretch;
+use last_write::LastWrite;
+use numbers::{Refusal, number_given};
 use rkc::{Link, Stepped};
-use writes::Given;
-
-// The number given back for a state of another length.
-const BAD_STATE: u32 = 5;
 
 // ---- what a step hands back
 
@@ -63,7 +62,7 @@ fn hold(state: &mut [u8], stepped: Stepped) -> u32
 pub fn vb_start_table(table: &mut [i32]) -> u32
     ensures { Lent (start_number table.old) (start_table table.old) result table.new }
 {
-    table::start(table) as u32
+    number_given(table::start(table)) as u32
 }
 
 // The link starts at rest.
@@ -72,7 +71,7 @@ pub fn vb_start_link(state: &mut [u8]) -> u32
         result state.new }
 {
     if state.len() != state::STATE_BYTES {
-        return BAD_STATE;
+        return Refusal::BadState.number() as u32;
     }
     state::pack(state, Link::start());
     0
@@ -143,7 +142,7 @@ pub fn vb_put(table: &mut [i32], item: u32, value: i32) -> u32
     ensures { Lent (put_number table.old item value) (put_table table.old item value)
         result table.new }
 {
-    table::put(table, item, value) as u32
+    number_given(table::put(table, item, value)) as u32
 }
 
 // Number text is read.
@@ -152,8 +151,8 @@ pub fn vb_read_text(decimals: u8, chars: &[u8], value: &mut i32) -> u32
         (read_value width decimals chars.now) result value.new }
 {
     let read = text::read(decimals, chars);
-    *value = read.value();
-    read.number() as u32
+    *value = read.unwrap_or(0);
+    number_given(read) as u32
 }
 
 // Six characters stand at the front.
@@ -175,12 +174,11 @@ pub fn vb_write_text(decimals: u8, value: i32, chars: &mut [u8]) -> u32
         (text_left decimals value chars.old) result chars.new }
 {
     if chars.len() < text::WIDTH {
-        return numbers::SHORT_BUFFER as u32;
+        return Refusal::ShortBuffer.number() as u32;
     }
     let written = text::write(decimals, value);
-    let six = written.chars;
-    put_six(chars, six);
-    written.number as u32
+    put_six(chars, written.unwrap_or([0; text::WIDTH]));
+    number_given(written) as u32
 }
 
 // ---- captures
@@ -190,7 +188,7 @@ pub fn vb_playback(table: &mut [i32], address: u8, capture: &[u8]) -> u32
     ensures { Lent (play_number table.old address capture.now)
         (played table.old address capture.now) result table.new }
 {
-    playback::play(table, address, capture) as u32
+    number_given(playback::play(table, address, capture)) as u32
 }
 
 // A frame of a capture is shown by its place and its length.
@@ -199,9 +197,10 @@ pub fn vb_show(capture: &[u8], frame: u32, place: &mut u32, length: &mut u32) ->
         (record { number = result; place = place.new; len = length.new }) }
 {
     let shown = capture::look_up(capture, frame);
-    *place = shown.place as u32;
-    *length = shown.len as u32;
-    shown.number as u32
+    let stretch = shown.unwrap_or(Stretch { place: 0, len: 0 });
+    *place = stretch.place as u32;
+    *length = stretch.len as u32;
+    number_given(shown) as u32
 }
 
 // What was last written to an item, by the value and the records that it sets; 256 more where a write was found.
@@ -215,17 +214,12 @@ pub fn vb_last_write(
     ensures { Told (record { address = address; item = item }) capture.now
         result value.new records.new }
 {
-    let answer = last_write::ask(capture, address, item);
-    *records = answer.records as u32;
-    let written = answer.written;
-    match written {
-        Given::Value(v) => {
-            *value = v;
-            result(answer.number, 1)
-        }
-        Given::Nothing => {
-            *value = 0;
-            result(answer.number, 0)
-        }
-    }
+    let asked = last_write::ask(capture, address, item);
+    let found = asked.unwrap_or(LastWrite {
+        written: None,
+        records: 0,
+    });
+    *value = found.written.unwrap_or(0);
+    *records = found.records as u32;
+    result(number_given(asked), found.written.is_some() as usize)
 }

@@ -3,7 +3,7 @@
 use Rattle.std.specs.Prelude.{Bool, cond, ◌&&◌, ℕ, ◌+◌, ◌-◌, ◌/◌, ◌%◌, ltb, eqb}
 use Rattle.line.specs.Line.{STX, ETX, EOT, ENQ, ACK, NAK, within, printable, is_line_error}
 use Rattle.phases.specs.Phases.{rest, first_digit, second_digit, addressed, one_character, two_characters, waiting, text, bcc_due, answered}
-use Rattle.phases.specs.Phases.{not_belonging, not_awaited, list_ended}
+use Rattle.numbers.specs.declared.Refusal.TheVariants.{NotBelonging, NotAwaited, ListEnded}
 use Rattle.phases.specs.declared.Act.{Act}
 use Rattle.phases.specs.declared.Act.TheVariants.{Go, First, Both, More, Ended, Quit, Poll, Send, Judge}
 
@@ -35,7 +35,7 @@ at_addressed c = cond (eqb c STX) (Go text) (first_or c (Go rest))
 
 -- a line error: rest, silent; any other byte that doesn't belong: EOT, rest
 abbrev pub astray : ℕ → Act
-astray c = cond (is_line_error c) (Go rest) (Quit not_belonging)
+astray c = cond (is_line_error c) (Go rest) (Quit NotBelonging)
 
 -- a printable character is the second of the identifier
 abbrev pub at_one_character : ℕ → ℕ → Act
@@ -49,8 +49,8 @@ at_two_characters first second c = cond (eqb c ENQ) (Poll first second) (astray 
 -- first of a new poll's identifier, since the address stays good; any other byte: EOT, rest
 abbrev pub at_waiting : ℕ → ℕ → ℕ → Act
 at_waiting last item c =
-    cond (eqb c ACK) (cond (ltb item last) (Send (item + 1)) (Quit list_ended))
-    (cond (eqb c NAK) (Send item) (first_or c (Quit not_awaited)))
+    cond (eqb c ACK) (cond (ltb item last) (Send (item + 1)) (Quit ListEnded))
+    (cond (eqb c NAK) (Send item) (first_or c (Quit NotAwaited)))
 
 -- all bytes but ETX (and EOT) are text
 abbrev pub at_text : ℕ → Act

@@ -7,6 +7,7 @@ ghost use Rattle.std.specs.Prelude.{◌≡◌};
 ghost use Rattle.phases.specs.Decision.{at_digit, first_or, at_addressed, at_one_character, at_two_characters, at_waiting, at_text, at_answered, decided};
 
 use line::{ACK, ENQ, EOT, ETX, NAK, STX};
+use numbers::Refusal;
 
 // ---- the phases
 
@@ -30,20 +31,6 @@ pub const BCC_DUE: u8 = 8;
 
 pub const ANSWERED: u8 = 9;
 
-// ---- numbers that go with EOT: 42 is given by rkc, once it has looked the identifier up; 44 and 46 stand there
-
-// a byte that doesn't belong into a poll
-pub const NOT_BELONGING: u8 = 41;
-
-// the identifier of a poll is unknown
-pub const UNKNOWN_POLLED: u8 = 42;
-
-// a byte while waiting that is neither ACK, NAK, EOT nor printable
-pub const NOT_AWAITED: u8 = 43;
-
-// the list has no next item: an end and no fault
-pub const LIST_ENDED: u8 = 45;
-
 // What a byte asks for.
 #[derive(Clone, Copy)]
 pub enum Act {
@@ -57,8 +44,8 @@ pub enum Act {
     More(u8),
     // the text has ended
     Ended,
-    // EOT with this number, and rest
-    Quit(u8),
+    // EOT with the number of this refusal, and rest
+    Quit(Refusal),
     // the identifier with these characters is polled
     Poll(u8, u8),
     // this item is sent
@@ -106,9 +93,9 @@ fn at_one_character(first: u8, c: u8) -> Act
     ensures { result ≡ at_one_character first c }
 {
     match c {
-        0x00..=0x1F => Act::Quit(NOT_BELONGING),
+        0x00..=0x1F => Act::Quit(Refusal::NotBelonging),
         0x20..=0x7E => Act::Both(first, c),
-        0x7F => Act::Quit(NOT_BELONGING),
+        0x7F => Act::Quit(Refusal::NotBelonging),
         0x80..=0xFF => Act::Go(REST),
     }
 }
@@ -119,7 +106,7 @@ fn at_two_characters(first: u8, second: u8, c: u8) -> Act
 {
     match c {
         ENQ => Act::Poll(first, second),
-        0x00..=0x7F => Act::Quit(NOT_BELONGING),
+        0x00..=0x7F => Act::Quit(Refusal::NotBelonging),
         0x80..=0xFF => Act::Go(REST),
     }
 }
@@ -133,10 +120,10 @@ fn at_waiting(last: u8, item: u8, c: u8) -> Act
         ACK => if item < last {
             Act::Send(item + 1)
         } else {
-            Act::Quit(LIST_ENDED)
+            Act::Quit(Refusal::ListEnded)
         },
         NAK => Act::Send(item),
-        _ => first_or(c, Act::Quit(NOT_AWAITED)),
+        _ => first_or(c, Act::Quit(Refusal::NotAwaited)),
     }
 }
 

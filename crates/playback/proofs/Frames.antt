@@ -1,6 +1,7 @@
 -- Frames handed over one at a time: the caller of each makes no fault, and each entry but the alarm states ends with the last value that
 -- a frame writes to its item.
 -- Assumes nothing.
+use Rattle.std.specs.Prelude.{Option, None}
 use mathlib.Core.Path.{◌≡◌, refl, sym, ap, ◌∙◌}
 use mathlib.Core.Bool.{Bool, true, false, ◌&&◌}
 use mathlib.Core.List.{List, [], ◌∷◌, ◌++◌}
@@ -17,8 +18,6 @@ use Rattle.items.specs.ItemList.{items, item_at}
 use Rattle.table.specs.Table.{entry, is_alarm_state, alarms_kept, good_table, table_fault, start_values}
 use Rattle.table.proofs.Laws.{good_start, good_length, good_others}
 use Rattle.crc.specs.Crc.{body_of}
-use Rattle.writes.specs.declared.Given.{Given}
-use Rattle.writes.specs.declared.Given.TheVariants.{Nothing}
 use Rattle.writes.specs.Writes.{allowed, each, given, later, over}
 use Rattle.writes.proofs.Stored.{later-none, later-assoc, over-later, all-given, read-only-given}
 use Rattle.modbus.specs.Outcome.{Outcome}
@@ -55,7 +54,7 @@ module _ (address : ℕ) (frame : List ℕ) where
       frame-has-body frame (eqb-true (frame_fault frame) none right)
 
   module _ (i : ℕ) where
-    pub other-writes : accepts_frame address frame ≡ false → wrote address frame i ≡ Nothing
+    pub other-writes : accepts_frame address frame ≡ false → wrote address frame i ≡ None
     unfolding wrote
     other-writes a = rw a
 
@@ -64,11 +63,11 @@ module _ (address : ℕ) (frame : List ℕ) where
     accepted-writes a = rw a
 
 -- a read-only item is never written
-pub read-only-writes : (address : ℕ) (frame : List ℕ) (i : ℕ) → (item_at i).writable ≡ false → wrote address frame i ≡ Nothing
+pub read-only-writes : (address : ℕ) (frame : List ℕ) (i : ℕ) → (item_at i).writable ≡ false → wrote address frame i ≡ None
 unfolding accepts_frame accepts_write
 read-only-writes address frame i r = by (accepts_frame address frame) refl
   where
-    by : (b : Bool) → accepts_frame address frame ≡ b → wrote address frame i ≡ Nothing
+    by : (b : Bool) → accepts_frame address frame ≡ b → wrote address frame i ≡ None
     by false a = other-writes address frame i a
     by true a =
         let message = (both (eqb (frame_fault frame) none) (accepts_write address (body_of frame)) a).1 in
@@ -163,5 +162,5 @@ pub last-one-more : (address : ℕ) (fs : List (List ℕ)) (f : List ℕ) (i : �
     → last_write address (fs ++ (f ∷ [])) i ≡ later (wrote address f i) (last_write address fs i)
 last-one-more address [] f i = sym (later-none (wrote address f i))
 last-one-more address (g ∷ fs) f i =
-    ap (λ (x : Given). later x (wrote address g i)) (last-one-more address fs f i)
+    ap (λ (x : Option ℤ). later x (wrote address g i)) (last-one-more address fs f i)
     ∙ later-assoc (wrote address f i) (last_write address fs i) (wrote address g i)

@@ -1,5 +1,6 @@
 -- Items that are settled on the walk back: one by a message, each by a message, and all by the frames of a capture.
 -- Assumes nothing.
+use Rattle.std.specs.Prelude.{Option, Some, None}
 use mathlib.Core.Path.{◌≡◌, refl, sym, ap, ap₂, ◌∙◌}
 use mathlib.Core.Bool.{Bool, true, false, cond}
 use mathlib.Core.List.{List, [], ◌∷◌, ◌++◌}
@@ -13,8 +14,6 @@ use lib.Seq.{get_or-set_same, get_or-set_other}
 use Rattle.numbers.proofs.Tests.{contrary}
 use Rattle.items.specs.ItemList.{items}
 use Rattle.table.specs.Table.{entry}
-use Rattle.writes.specs.declared.Given.{Given}
-use Rattle.writes.specs.declared.Given.TheVariants.{Value, Nothing}
 use Rattle.writes.specs.Writes.{later, over}
 use Rattle.writes.proofs.Stored.{later-none, later-assoc}
 use Rattle.capture.specs.Format.{begins, frame_before, trailer_begins, count, frames_to, frames}
@@ -25,11 +24,11 @@ use Rattle.playback.proofs.Frames.{last-one-more}
 -- ---- what is known of an item
 
 module _ (t : List ℤ) (settled : List Bool) (i : ℕ) where
-  known-value : get_or settled i false ≡ true → known t settled i ≡ Value (entry t i)
+  known-value : get_or settled i false ≡ true → known t settled i ≡ Some (entry t i)
   unfolding known
   known-value s = rw s
 
-  known-none : get_or settled i false ≡ false → known t settled i ≡ Nothing
+  known-none : get_or settled i false ≡ false → known t settled i ≡ None
   unfolding known
   known-none s = rw s
 
@@ -43,7 +42,7 @@ module _ (t : List ℤ) (settled : List Bool) (i : ℕ) where
   unfolding known
   known_over v s = by (get_or settled i false) refl
     where
-      by : (b : Bool) → get_or settled i false ≡ b → entry t i ≡ over v (cond b (Value (entry t i)) Nothing)
+      by : (b : Bool) → get_or settled i false ≡ b → entry t i ≡ over v (cond b (Some (entry t i)) None)
       by true e = refl
       by false e = s e
 
@@ -51,7 +50,7 @@ module _ (t : List ℤ) (settled : List Bool) (i : ℕ) where
 
 module _ {t : List ℤ} {settled : List Bool} where
   -- where nothing is given, nothing changes
-  pub stays : (gives : ℕ → Given) → InStep t settled → ((i : ℕ) → i < items → gives i ≡ Nothing) → Settles gives t settled t settled
+  pub stays : (gives : ℕ → Option ℤ) → InStep t settled → ((i : ℕ) → i < items → gives i ≡ None) → Settles gives t settled t settled
   stays gives s n =
       record {
         in_step = s;
@@ -59,27 +58,27 @@ module _ {t : List ℤ} {settled : List Bool} where
         others = λ i h e. (e, refl);
       }
 
-  pub by-gives : {gives same : ℕ → Given} {left : List ℤ} {after : List Bool} → Settles gives t settled left after
+  pub by-gives : {gives same : ℕ → Option ℤ} {left : List ℤ} {after : List Bool} → Settles gives t settled left after
       → ((i : ℕ) → i < items → gives i ≡ same i) → Settles same t settled left after
   by-gives w e =
       record { in_step = w.in_step; now = λ i h. w.now i h ∙ ap (later (known t settled i)) (e i h); others = w.others }
 
   -- two steps are one, in which an item is given what either gives it, the first before the second
-  pub both-steps : {first second : ℕ → Given} {mid left : List ℤ} {between after : List Bool} → Settles first t settled mid between
+  pub both-steps : {first second : ℕ → Option ℤ} {mid left : List ℤ} {between after : List Bool} → Settles first t settled mid between
       → Settles second mid between left after → Settles (λ i. later (first i) (second i)) t settled left after
   both-steps {first} {second} v w =
       record {
         in_step = w.in_step;
         now = λ i h.
-            w.now i h ∙ ap (λ (g : Given). later g (second i)) (v.now i h) ∙ later-assoc (known t settled i) (first i) (second i);
+            w.now i h ∙ ap (λ (g : Option ℤ). later g (second i)) (v.now i h) ∙ later-assoc (known t settled i) (first i) (second i);
         others = λ i h e. let m = w.others i h e in let n = v.others i h m.0 in (n.0, m.1 ∙ n.1);
       }
 
 -- ---- one item
 
-module _ (gives : ℕ → Given) (t : List ℤ) (settled : List Bool) (place : ℕ) (s : InStep t settled) where
+module _ (gives : ℕ → Option ℤ) (t : List ℤ) (settled : List Bool) (place : ℕ) (s : InStep t settled) where
   -- what another item is given, by what only this one is
-  other : (i : ℕ) → (i ≡ place → ⊥) → only place gives i ≡ Nothing
+  other : (i : ℕ) → (i ≡ place → ⊥) → only place gives i ≡ None
   other i e = rw (ne_eqb i place e)
 
   this : (i : ℕ) → i ≡ place → only place gives i ≡ gives i
@@ -91,17 +90,17 @@ module _ (gives : ℕ → Given) (t : List ℤ) (settled : List Bool) (place : �
       by : (i : ℕ) (b : Bool) → eqb i place ≡ b → known t settled i ≡ later (known t settled i) (only place gives i)
       by i true q =
           let value = known-value t settled i (ap (λ (j : ℕ). get_or settled j false) (eqb-true i place q) ∙ e) in
-          value ∙ sym (ap (λ (g : Given). later g (only place gives i)) value)
+          value ∙ sym (ap (λ (g : Option ℤ). later g (only place gives i)) value)
       by i false q = sym (ap (later (known t settled i)) (other i (eqb-false i place q)) ∙ later-none (known t settled i))
 
-  pub one-not-given : gives place ≡ Nothing → Settles (only place gives) t settled t settled
+  pub one-not-given : gives place ≡ None → Settles (only place gives) t settled t settled
   one-not-given e = stays (only place gives) s (λ i h. by i (eqb i place) refl)
     where
-      by : (i : ℕ) (b : Bool) → eqb i place ≡ b → only place gives i ≡ Nothing
+      by : (i : ℕ) (b : Bool) → eqb i place ≡ b → only place gives i ≡ None
       by i true q = this i (eqb-true i place q) ∙ ap gives (eqb-true i place q) ∙ e
       by i false q = other i (eqb-false i place q)
 
-  pub one-given : (v : ℤ) → place < items → get_or settled place false ≡ false → gives place ≡ Value v
+  pub one-given : (v : ℤ) → place < items → get_or settled place false ≡ false → gives place ≡ Some v
       → Settles (only place gives) t settled (set t place v) (set settled place true)
   one-given v p u e =
       record {
@@ -127,9 +126,9 @@ module _ (gives : ℕ → Given) (t : List ℤ) (settled : List Bool) (place : �
       by i true q =
           let here = eqb-true i place q in
           known-value (set t place v) (set settled place true) i (marked i here)
-          ∙ ap Value (ap (entry (set t place v)) here ∙ get_or-set_same t place v (pos 0) (omega (arith, s.entries)))
+          ∙ ap Some (ap (entry (set t place v)) here ∙ get_or-set_same t place v (pos 0) (omega (arith, s.entries)))
           ∙ sym (this i here ∙ ap gives here ∙ e)
-          ∙ sym (ap (λ (g : Given). later g (only place gives i)) (known-none t settled i (ap (λ (j : ℕ). get_or settled j false) here ∙ u)))
+          ∙ sym (ap (λ (g : Option ℤ). later g (only place gives i)) (known-none t settled i (ap (λ (j : ℕ). get_or settled j false) here ∙ u)))
       by i false q =
           let elsewhere = eqb-false i place q in
           unchanged i elsewhere ∙ sym (ap (later (known t settled i)) (other i elsewhere) ∙ later-none (known t settled i))
@@ -137,14 +136,14 @@ module _ (gives : ℕ → Given) (t : List ℤ) (settled : List Bool) (place : �
 -- ---- each item
 
 -- of what items are given, what those below a place are
-abbrev pub below : ℕ → (ℕ → Given) → ℕ → Given
-below place gives i = cond (ltb i place) (gives i) Nothing
+abbrev pub below : ℕ → (ℕ → Option ℤ) → ℕ → Option ℤ
+below place gives i = cond (ltb i place) (gives i) None
 
 -- what the items below a place are given, with what the one there is given, is what those below the next are given
-pub below_next : (gives : ℕ → Given) (place i : ℕ) → later (below place gives i) (only place gives i) ≡ below (place + 1) gives i
+pub below_next : (gives : ℕ → Option ℤ) (place i : ℕ) → later (below place gives i) (only place gives i) ≡ below (place + 1) gives i
 below_next gives place i = by (ltb i place) refl
   where
-    here : (b : Bool) → eqb i place ≡ b → ltb i place ≡ false → cond b (gives i) Nothing ≡ below (place + 1) gives i
+    here : (b : Bool) → eqb i place ≡ b → ltb i place ≡ false → cond b (gives i) None ≡ below (place + 1) gives i
     here true q o = sym (rw (lt-ltb i (place + 1) (omega (arith, eqb-true i place q))))
     here false q o =
         let past = ltb-false i place o in
@@ -154,17 +153,17 @@ below_next gives place i = by (ltb i place) refl
         beyond : place ≤ i → (i ≡ place → ⊥) → place + 1 ≤ i
         beyond h e = omega arith
 
-    by : (b : Bool) → ltb i place ≡ b → later (cond b (gives i) Nothing) (only place gives i) ≡ below (place + 1) gives i
+    by : (b : Bool) → ltb i place ≡ b → later (cond b (gives i) None) (only place gives i) ≡ below (place + 1) gives i
     by true q =
         let first : ltb i (place + 1) ≡ true = lt-ltb i (place + 1) (omega (arith, ltb-true i place q)) in
         let elsewhere : i ≡ place → ⊥ = λ e. omega (arith, ltb-true i place q) in
         ap (later (gives i)) (rw (ne_eqb i place elsewhere)) ∙ later-none (gives i) ∙ sym (rw first)
     by false q = here (eqb i place) refl q
 
-pub below_none : (gives : ℕ → Given) (i : ℕ) → below 0 gives i ≡ Nothing
+pub below_none : (gives : ℕ → Option ℤ) (i : ℕ) → below 0 gives i ≡ None
 below_none gives i = rw (le-ltb i 0 (omega arith))
 
-pub below_all : (gives : ℕ → Given) (place i : ℕ) → i < place → below place gives i ≡ gives i
+pub below_all : (gives : ℕ → Option ℤ) (place i : ℕ) → i < place → below place gives i ≡ gives i
 below_all gives place i h = rw (lt-ltb i place h)
 
 -- ---- the walk back
@@ -185,7 +184,7 @@ module _ (address : ℕ) (c : List ℕ) (start : List ℤ) where
       record {
         in_step = s;
         rest = λ i h.
-            ap (λ (g : Given). later g (last_write address (frames_to c left end) i)) (known-none start settled i (u i h))
+            ap (λ (g : Option ℤ). later g (last_write address (frames_to c left end) i)) (known-none start settled i (u i h))
             ∙ ap₂ (λ (n p : ℕ). last_write address (frames_to c n p) i) l e;
         others = λ i h o. refl;
       }

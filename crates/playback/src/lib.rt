@@ -5,6 +5,7 @@
 
 ghost use Rattle.std.specs.Prelude.{◌≡◌, length, ◌≤◌, ◌<◌};
 ghost use Rattle.numbers.specs.Promise.{Lent};
+ghost use Rattle.numbers.specs.Refusals.{number_given};
 ghost use Rattle.items.specs.ItemList.{items};
 ghost use Rattle.crc.specs.Crc.{body_of};
 ghost use Rattle.writes.specs.Writes.{given};
@@ -14,19 +15,17 @@ ghost use Rattle.playback.specs.Playback.{play_number, played};
 ghost use Rattle.playback.specs.Written.{accepts_frame, wrote};
 ghost use Rattle.playback.specs.Settling.{InStep, only, Settles, LastWrites};
 
-use numbers::{BAD_SETTING, NONE};
-use table::WRONG_LENGTH;
-use writes::Given;
+use numbers::Refusal;
 
-// The fault of a call, 0 for none.
-fn play_fault(table: &[i32], address: u8, capture: &[u8]) -> u8
-    ensures { result ≡ play_number table.now address capture.now }
+// The fault of a call.
+fn play_fault(table: &[i32], address: u8, capture: &[u8]) -> Result<(), Refusal>
+    ensures { number_given result ≡ play_number table.now address capture.now }
 {
     if table.len() != items::ITEMS {
-        return WRONG_LENGTH;
+        return Err(Refusal::WrongLength);
     }
     if !call::is_address(address) {
-        return BAD_SETTING;
+        return Err(Refusal::BadSetting);
     }
     capture::fault(capture)
 }
@@ -46,20 +45,20 @@ fn body_of(frame: &[u8]) -> &[u8]
 fn accepts_frame(address: u8, frame: &[u8]) -> bool
     ensures { result ≡ accepts_frame address frame.now }
 {
-    if rtu::frame_fault(frame) != NONE {
+    if rtu::frame_fault(frame).is_err() {
         return false;
     }
     settings::accepts_write(address, body_of(frame))
 }
 
 // What a frame writes to an item.
-pub fn wrote(address: u8, frame: &[u8], item: usize) -> Given
+pub fn wrote(address: u8, frame: &[u8], item: usize) -> Option<i32>
     ensures { result ≡ wrote address frame.now item }
 {
     if accepts_frame(address, frame) {
         settings::given_by(body_of(frame), item)
     } else {
-        Given::Nothing
+        None
     }
 }
 
@@ -74,7 +73,7 @@ fn settle_item(table: &mut [i32], settled: &mut [bool], body: &[u8], i: usize)
     if settled[i] {
         return;
     }
-    let Given::Value(value) = settings::given_by(body, i) else {
+    let Some(value) = settings::given_by(body, i) else {
         return;
     };
     table[i] = value;
@@ -126,16 +125,13 @@ fn settle_all(table: &mut [i32], address: u8, capture: &[u8])
 }
 
 // The table becomes what the frames of a capture leave, or stays where the call has a fault.
-pub fn play(table: &mut [i32], address: u8, capture: &[u8]) -> u8
+pub fn play(table: &mut [i32], address: u8, capture: &[u8]) -> Result<(), Refusal>
     ensures { Lent (play_number table.old address capture.now)
-        (played table.old address capture.now) result table.new }
+        (played table.old address capture.now) (number_given result) table.new }
 {
-    let number = play_fault(&table[..], address, capture);
-    if number != NONE {
-        return number;
-    }
-    table::start(table);
+    play_fault(&table[..], address, capture)?;
+    table::start(table)?;
     settle_all(table, address, capture);
     table::keep_alarms(table);
-    NONE
+    Ok(())
 }

@@ -1,7 +1,5 @@
 -- Registers hold 16-bit two's complement, and are sent high byte first.
-use Rattle.std.specs.Prelude.{ℕ, zero, suc, ◌-◌, ◌+◌, ◌*◌, ◌/◌, ◌%◌, cond, List, [], ◌∷◌, ◌++◌, ltb, ℤ, pos, negsuc}
-use Rattle.items.specs.declared.Found.{Found}
-use Rattle.items.specs.declared.Found.TheVariants.{At, Nothing}
+use Rattle.std.specs.Prelude.{ℕ, zero, suc, ◌-◌, ◌+◌, ◌*◌, ◌/◌, ◌%◌, cond, List, [], ◌∷◌, ◌++◌, ltb, ℤ, pos, negsuc, Option, Some, None}
 use Rattle.items.specs.ItemList.{found_by_register}
 use Rattle.table.specs.Table.{answered}
 
@@ -23,9 +21,9 @@ abbrev pub word : ℕ → ℕ → ℕ
 word high low = high * 256 + low
 
 -- what a register of the map reads: the answer for the item that has it, 0 where it is unlisted
-abbrev pub read_as : List ℤ → Found → ℕ
-read_as t (At i) = to_register (answered t i)
-read_as t Nothing = 0
+abbrev pub read_as : List ℤ → Option ℕ → ℕ
+read_as t (Some i) = to_register (answered t i)
+read_as t None = 0
 
 unfoldable pub register_at : List ℤ → ℕ → ℕ
 register_at t r = read_as t (found_by_register r)

@@ -3,17 +3,12 @@
 #![tactic(auto)]
 
 ghost use Rattle.std.specs.Prelude.{◌≡◌, get_or};
+ghost use Rattle.numbers.specs.Refusals.{number_given};
 ghost use Rattle.registers.specs.Register.{to_register, of_register, word, register_at};
 ghost use Rattle.registers.specs.Faults.{first_word, second_word, in_map};
 ghost use Rattle.registers.specs.Faults.{read_fault, right_counts, loopback_fault};
 
-use items::Found;
-use numbers::NONE;
-
-// Numbers given back.
-pub const WRONG_REGISTER: u8 = 32;
-
-pub const WRONG_DATA: u8 = 33;
+use numbers::Refusal;
 
 // The length of a body of 03H, 06H and 08H, and the most registers that one message reads.
 pub const BODY_LENGTH: usize = 6;
@@ -70,8 +65,8 @@ pub fn register_at(table: &[i32], register: u16) -> u16
     ensures { result ≡ register_at table.now register }
 {
     match items::find_register(register) {
-        Found::At(i) => to_register(table::answer(table, i)),
-        Found::Nothing => 0,
+        Some(i) => to_register(table::answer(table, i)),
+        None => 0,
     }
 }
 
@@ -84,31 +79,31 @@ fn in_map(start: u16, quantity: u16) -> bool
     (start as usize) + (quantity as usize) <= items::MAP_SIZE
 }
 
-// The fault of a request to read, 0 for none.
-pub fn read_fault(body: &[u8]) -> u8
-    ensures { result ≡ read_fault body.now }
+// The fault of a request to read.
+pub fn read_fault(body: &[u8]) -> Result<(), Refusal>
+    ensures { number_given result ≡ read_fault body.now }
 {
     let quantity = second_word(body);
     if body.len() != BODY_LENGTH || quantity < 1 || MOST_REGISTERS < quantity {
-        return WRONG_DATA;
+        return Err(Refusal::WrongData);
     }
     if in_map(first_word(body), quantity) {
-        NONE
+        Ok(())
     } else {
-        WRONG_REGISTER
+        Err(Refusal::WrongRegister)
     }
 }
 
 // ---- 08H: a test code and data
 
-// The fault of a loopback, 0 for none.
-pub fn loopback_fault(body: &[u8]) -> u8
-    ensures { result ≡ loopback_fault body.now }
+// The fault of a loopback.
+pub fn loopback_fault(body: &[u8]) -> Result<(), Refusal>
+    ensures { number_given result ≡ loopback_fault body.now }
 {
     if body.len() == BODY_LENGTH && first_word(body) == 0 {
-        NONE
+        Ok(())
     } else {
-        WRONG_DATA
+        Err(Refusal::WrongData)
     }
 }
 

@@ -10,7 +10,7 @@ use Rattle.line.specs.Line.{ACK, NAK, sent, heard}
 use Rattle.phases.specs.Phases as phases
 use Rattle.phases.specs.Phases.{waiting}
 use Rattle.phases.specs.declared.Act.{Act}
-use Rattle.text.specs.declared.Written.{Written}
+use Rattle.text.specs.Writing.{Written}
 use Rattle.block.specs.Block.{Judges}
 use Rattle.block.specs.declared.Verdict.{Verdict}
 use Rattle.block.specs.declared.Verdict.TheVariants.{Store, Refuse}

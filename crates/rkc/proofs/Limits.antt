@@ -1,11 +1,10 @@
 -- The state that a step starts from: a state within its limits, with all that its phase doesn't use at 0. Its acts are limited.
 -- Assumes nothing.
+use Rattle.std.specs.Prelude.{Option, Some, None}
 use Rattle.std.proofs.Common.{◌≡◌, ℕ, zero, suc, ◌+◌, ◌-◌, ◌<◌, ◌≤◌, Bool, true, false, cond, ◌&&◌, eqb, ltb, leb, List, [], ◌∷◌, get_or, set, ℤ, sym, refl, ◌∙◌, arith, lit<, lit≤, ltb-true, lt-ltb, eq-eqb, ne_eqb, le-leb, leb-true}
 use Rattle.numbers.specs.Numbers.{none}
 use Rattle.numbers.proofs.Tests.{both, chosen}
 use Rattle.kept.specs.Kept.{up_to}
-use Rattle.items.specs.declared.Found.{Found}
-use Rattle.items.specs.declared.Found.TheVariants.{At, Nothing}
 use Rattle.items.specs.ItemList.{items, found}
 use Rattle.items.proofs.Lookup.{found-place}
 use Rattle.line.specs.Line.{ETX, top_bit, low_seven, within}
@@ -140,9 +139,9 @@ performed-limits l t structure time Ended s x = end-limits l s
 performed-limits l t structure time (Quit number) s x = refl
 performed-limits l t structure time (Poll a b) s x = by (found a b) refl
   where
-    by : (f : Found) → found a b ≡ f → in_limits (polled structure time t f).link ≡ true
-    by (At i) e = item-limits structure time t i (found-place a b i e).0
-    by Nothing e = refl
+    by : (f : Option ℕ) → found a b ≡ f → in_limits (polled structure time t f).link ≡ true
+    by (Some i) e = item-limits structure time t i (found-place a b i e).0
+    by None e = refl
 performed-limits l t structure time (Send item) s x = item-limits structure time t (item - 1) (omega (arith, x.0, x.1))
 performed-limits l t structure time (Judge c) s x =
     chosen (λ (o : Outcome). in_limits o.step.link ≡ true) (eqb (refusing t l c) none) (λ _. refl) (λ _. refl)

@@ -1,13 +1,12 @@
 -- What one received byte and one idle call lead to.
-use Rattle.std.specs.Prelude.{ℕ, ◌+◌, ◌-◌, ◌%◌, ◌^◌, Bool, cond, ◌&&◌, List, [], ◌∷◌, ◌++◌, map, length, ℤ, ◌==◌, nat_le, slice_index}
+use Rattle.std.specs.Prelude.{ℕ, ◌+◌, ◌-◌, ◌%◌, ◌^◌, Bool, cond, ◌&&◌, List, [], ◌∷◌, ◌++◌, map, length, ℤ, ◌==◌, nat_le, slice_index, Option, Some, None}
 use Rattle.numbers.specs.Numbers.{none, unless, first_met, unless_met, short_buffer, least_buffer, bad_setting, last_address}
-use Rattle.items.specs.declared.Found.{Found}
-use Rattle.items.specs.declared.Found.TheVariants.{At, Nothing}
 use Rattle.items.specs.ItemList.{items, item_at, decimals_of, found}
+use Rattle.numbers.specs.Refusals.{number_of}
 use Rattle.table.specs.Table.{table_fault, answered, xu_of, stored}
 use Rattle.line.specs.Line.{STX, ETX, EOT, ACK, NAK, last_structure, sent, heard, bcc}
 use Rattle.text.specs.Numbers.{width}
-use Rattle.text.specs.declared.Written.{Written}
+use Rattle.text.specs.Writing.{Written}
 use Rattle.text.specs.Writing.{written}
 use Rattle.phases.specs.Phases as phases
 use Rattle.phases.specs.Phases.{rest, waiting, unknown_polled}
@@ -80,9 +79,9 @@ unfoldable pub item_sent : ℕ → ℕ → List ℤ → ℕ → Step
 item_sent structure time t i = with_text structure time i (item_text t i)
 
 -- what an identifier names is sent; an unknown one: EOT, rest
-abbrev pub polled : ℕ → ℕ → List ℤ → Found → Step
-polled structure time t (At i) = item_sent structure time t i
-polled structure time t Nothing = quit structure unknown_polled
+abbrev pub polled : ℕ → ℕ → List ℤ → Option ℕ → Step
+polled structure time t (Some i) = item_sent structure time t i
+polled structure time t None = quit structure unknown_polled
 
 -- ---- blocks
 
@@ -110,7 +109,7 @@ performed l t structure time (First a) = keeping t (silent (holding_one a))
 performed l t structure time (Both a b) = keeping t (silent (holding_two a b))
 performed l t structure time (More c) = keeping t (silent (with_more l c))
 performed l t structure time Ended = keeping t (silent (with_end l))
-performed l t structure time (Quit number) = keeping t (quit structure number)
+performed l t structure time (Quit refusal) = keeping t (quit structure (number_of refusal))
 performed l t structure time (Poll a b) = keeping t (polled structure time t (found a b))
 performed l t structure time (Send item) = keeping t (item_sent structure time t (item - 1))
 performed l t structure time (Judge c) = judged structure t l c

@@ -1,6 +1,7 @@
 // The caller's faults: what a state's limits are, and the order in which a call looks at what it is handed.
 ghost use Rattle.std.specs.Prelude.{◌≡◌, [], ◌∷◌, nat_le};
 ghost use Rattle.numbers.specs.Numbers.{first_met};
+ghost use Rattle.numbers.specs.Refusals.{number_given};
 ghost use Rattle.table.specs.Table.{table_fault};
 ghost use Rattle.line.specs.Line.{last_structure};
 ghost use Rattle.rkc.specs.State.{all_characters, block_in_limits, in_limits};
@@ -9,11 +10,8 @@ ghost use Rattle.rkc.specs.Outcome.{step_fault, good_settings};
 use crate::Link;
 use crate::states::MOST_COUNTED;
 use line::{LAST_STRUCTURE, TOP_BIT};
-use numbers::{BAD_SETTING, LAST_ADDRESS, LEAST_BUFFER, SHORT_BUFFER};
+use numbers::{LAST_ADDRESS, LEAST_BUFFER, Refusal};
 use phases::{ANSWERED, BCC_DUE, ONE_CHARACTER, TEXT, TWO_CHARACTERS, WAITING};
-
-// The number of a state outside its limits.
-const BAD_STATE: u8 = 5;
 
 // Whether no character is 80H or more.
 fn all_characters(chars: &[u8]) -> bool
@@ -63,39 +61,42 @@ impl Link {
         }
     }
 
-    // What every step looks at, in this order: buffer, settings, state; 0 for no fault. Buffer and settings are told apart only in a call
+    // What every step looks at, in this order: buffer, settings, state. Buffer and settings are told apart only in a call
     // that has one of the two faults, so that the others take no time for it.
-    fn step_fault(self, room: usize, settings: bool) -> u8
-        ensures { result ≡ step_fault self room settings }
+    fn step_fault(self, room: usize, settings: bool) -> Result<(), Refusal>
+        ensures { number_given result ≡ step_fault self room settings }
     {
         if room < LEAST_BUFFER || !settings {
             return if room < LEAST_BUFFER {
-                SHORT_BUFFER
+                Err(Refusal::ShortBuffer)
             } else {
-                BAD_SETTING
+                Err(Refusal::BadSetting)
             };
         }
         if !self.in_limits() {
-            return BAD_STATE;
+            return Err(Refusal::BadState);
         }
-        0
+        Ok(())
     }
 
     // The caller's fault in a byte call: the table is looked at first.
-    pub(crate) fn byte_fault(self, table: &[i32], room: usize, address: u8, structure: u8) -> u8
-        ensures { result ≡ first_met
+    pub(crate) fn byte_fault(
+        self,
+        table: &[i32],
+        room: usize,
+        address: u8,
+        structure: u8,
+    ) -> Result<(), Refusal>
+        ensures { number_given result ≡ first_met
             (table_fault table.now ∷ step_fault self room (good_settings address structure) ∷ []) }
     {
-        let number = table::check(table);
-        if number != 0 {
-            return number;
-        }
+        table::check(table)?;
         self.step_fault(room, good_settings(address, structure))
     }
 
     // The caller's fault in an idle call, which has no table and no address.
-    pub(crate) fn idle_fault(self, room: usize, structure: u8) -> u8
-        ensures { result ≡ step_fault self room (nat_le structure last_structure) }
+    pub(crate) fn idle_fault(self, room: usize, structure: u8) -> Result<(), Refusal>
+        ensures { number_given result ≡ step_fault self room (nat_le structure last_structure) }
     {
         self.step_fault(room, structure <= LAST_STRUCTURE)
     }

@@ -16,6 +16,7 @@ ghost use Rattle.rkc.specs.State.{in_phase};
 ghost use Rattle.rkc.specs.Promise.{Leads, Idles};
 
 use block::MOST_KEPT;
+use numbers::Refusal;
 use phases::{REST, WAITING};
 use replies::{handed_back, quit, silent};
 use states::in_phase;
@@ -42,9 +43,6 @@ pub struct Stepped {
 
 // The number of the list's last item, counted from 1.
 const LAST_ITEM: u8 = items::ITEMS as u8;
-
-// The number of a host that fell silent.
-const TIMED_OUT: u8 = 44;
 
 // Milliseconds.
 const PATIENCE: u32 = 3000;
@@ -77,17 +75,15 @@ impl Link {
           byte = byte;
         }) result reply.new table.new }
     {
-        let number = self.byte_fault(&table[..], reply.len(), address, structure);
-        if number == 0 {
-            let kept = self.kept;
-            let c = line::heard(structure, byte);
-            let act = phases::decide(
-                LAST_ITEM, self.phase, kept[0], kept[1], self.item, address, c,
-            );
-            self.perform(act, table, reply, structure, time)
-        } else {
-            handed_back(self, number)
+        if let Err(refusal) = self.byte_fault(&table[..], reply.len(), address, structure) {
+            return handed_back(self, refusal.number());
         }
+        let kept = self.kept;
+        let c = line::heard(structure, byte);
+        let act = phases::decide(
+            LAST_ITEM, self.phase, kept[0], kept[1], self.item, address, c,
+        );
+        self.perform(act, table, reply, structure, time)
     }
 
     // No byte came: a host that is waited on for three seconds or more is told EOT.
@@ -96,12 +92,11 @@ impl Link {
             (record { link = self; buffer = reply.old; structure = structure; time = time })
             result reply.new }
     {
-        let number = self.idle_fault(reply.len(), structure);
-        if number != 0 {
-            return handed_back(self, number);
+        if let Err(refusal) = self.idle_fault(reply.len(), structure) {
+            return handed_back(self, refusal.number());
         }
         if self.phase == WAITING && PATIENCE <= elapsed(time, self.time) {
-            return quit(reply, structure, TIMED_OUT);
+            return quit(reply, structure, Refusal::TimedOut);
         }
         silent(self.used())
     }

@@ -1,6 +1,7 @@
 // What is sent: nothing, one character, or an item's data reply.
 ghost use Rattle.std.specs.Prelude.{◌≡◌, ◌<◌, ◌≤◌, map, length};
 ghost use Rattle.std.proofs.lemmas.List.Edits.{sets};
+ghost use Rattle.numbers.specs.Refusals.{number_of};
 ghost use Rattle.line.specs.Line.{sent};
 ghost use Rattle.rkc.specs.Outcome.{sends, quit, data_reply};
 ghost use Rattle.rkc.specs.Promise.{Steps};
@@ -8,6 +9,7 @@ ghost use Rattle.rkc.specs.Promise.{Steps};
 use crate::states::in_phase;
 use crate::{Link, Stepped};
 use line::{EOT, ETX, STX};
+use numbers::{NONE, Refusal};
 use phases::REST;
 
 // Nothing is sent, and a number is given.
@@ -24,7 +26,7 @@ pub(crate) fn handed_back(state: Link, number: u8) -> Stepped
 pub(crate) fn silent(link: Link) -> Stepped
     ensures { result ≡ record { link = link; number = 0; len = 0 } }
 {
-    handed_back(link, 0)
+    handed_back(link, NONE)
 }
 
 // The characters go to the buffer's front, each as it is sent.
@@ -54,12 +56,12 @@ pub(crate) fn send_one(reply: &mut [u8], structure: u8, c: u8, link: Link, numbe
     }
 }
 
-// EOT is sent with a number, and the link rests.
-pub(crate) fn quit(reply: &mut [u8], structure: u8, number: u8) -> Stepped
+// EOT is sent with the number of a refusal, and the link rests.
+pub(crate) fn quit(reply: &mut [u8], structure: u8, refusal: Refusal) -> Stepped
     requires { 0 < length reply.old }
-    ensures { Steps (quit structure number) result reply.old reply.new }
+    ensures { Steps (quit structure (number_of refusal)) result reply.old reply.new }
 {
-    send_one(reply, structure, EOT, in_phase(REST), number)
+    send_one(reply, structure, EOT, in_phase(REST), refusal.number())
 }
 
 // An item's data reply about its six characters. The BCC goes over what stands between STX and itself.

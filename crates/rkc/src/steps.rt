@@ -10,13 +10,9 @@ ghost use Rattle.rkc.specs.Promise.{Steps, Does};
 use crate::replies::{data_reply, put, quit, send_one, silent};
 use crate::states::{holding_one, holding_two, in_phase, waiting_on};
 use crate::{Link, Stepped};
-use block::Verdict;
-use items::Found;
 use line::{ACK, NAK};
-use phases::{ANSWERED, Act, UNKNOWN_POLLED};
-
-// The number of an item whose value does not fit six characters.
-const NO_ROOM: u8 = 46;
+use numbers::{NONE, Refusal};
+use phases::{ANSWERED, Act};
 
 // An item is sent with its value and its decimals now, and waited on.
 fn send_item(table: &[i32], reply: &mut [u8], structure: u8, time: u32, i: usize) -> Stepped
@@ -25,18 +21,15 @@ fn send_item(table: &[i32], reply: &mut [u8], structure: u8, time: u32, i: usize
         reply.old reply.new }
 {
     let value = table::answer(table, i);
-    let written = text::write(items::decimals(table::xu(table), i), value);
-    let six = written.chars;
-    if written.number == 0 {
-        let chars = data_reply(i, six);
-        let len = put(reply, structure, &chars);
-        Stepped {
-            link: waiting_on((i + 1) as u8, time),
-            number: 0,
-            len,
-        }
-    } else {
-        quit(reply, structure, NO_ROOM)
+    let Ok(six) = text::write(items::decimals(table::xu(table), i), value) else {
+        return quit(reply, structure, Refusal::NoRoom);
+    };
+    let chars = data_reply(i, six);
+    let len = put(reply, structure, &chars);
+    Stepped {
+        link: waiting_on((i + 1) as u8, time),
+        number: NONE,
+        len,
     }
 }
 
@@ -47,8 +40,8 @@ fn poll(table: &[i32], reply: &mut [u8], structure: u8, time: u32, a: u8, b: u8)
         reply.old reply.new }
 {
     match items::find(a, b) {
-        Found::At(i) => send_item(table, reply, structure, time, i),
-        Found::Nothing => quit(reply, structure, UNKNOWN_POLLED),
+        Some(i) => send_item(table, reply, structure, time, i),
+        None => quit(reply, structure, Refusal::UnknownPolled),
     }
 }
 
@@ -62,11 +55,11 @@ impl Link {
         let kept = self.kept;
         let xu = table::xu(&table[..]);
         match block::judge(xu, self.mark, self.bcc, self.count, kept, c) {
-            Verdict::Store(i, value) => {
-                table::store(table, i, value);
-                send_one(reply, structure, ACK, in_phase(ANSWERED), 0)
+            Ok(setting) => {
+                table::store(table, setting.place, setting.value);
+                send_one(reply, structure, ACK, in_phase(ANSWERED), NONE)
             }
-            Verdict::Refuse(number) => send_one(reply, structure, NAK, in_phase(ANSWERED), number),
+            Err(refusal) => send_one(reply, structure, NAK, in_phase(ANSWERED), refusal.number()),
         }
     }
 
@@ -89,7 +82,7 @@ impl Link {
             Act::Both(a, b) => silent(holding_two(a, b)),
             Act::More(c) => silent(self.with_more(c)),
             Act::Ended => silent(self.with_end()),
-            Act::Quit(number) => quit(reply, structure, number),
+            Act::Quit(refusal) => quit(reply, structure, refusal),
             Act::Poll(a, b) => poll(&table[..], reply, structure, time, a, b),
             Act::Send(item) => send_item(&table[..], reply, structure, time, (item - 1) as usize),
             Act::Judge(c) => self.judge(table, reply, structure, c),

@@ -3,6 +3,7 @@
 
 ghost use Rattle.std.specs.Prelude.{◌≡◌};
 ghost use Rattle.numbers.specs.Numbers.{none};
+ghost use Rattle.numbers.specs.Refusals.{number_given};
 ghost use Rattle.crc.specs.Crc.{framed, body_of};
 ghost use Rattle.modbus.specs.Rules.{acted};
 ghost use Rattle.modbus.specs.Promise.{Gives};
@@ -11,43 +12,35 @@ ghost use Rattle.rtu.specs.Frame.{frame_fault};
 ghost use Rattle.rtu.specs.Promise.{Acts};
 
 use modbus::Answered;
-use numbers::NONE;
-
-// Numbers given back, beside those of the call and of the message.
-pub const WRONG_FRAME_LENGTH: u8 = 21;
-
-pub const WRONG_CRC: u8 = 22;
+use numbers::Refusal;
 
 // The lengths that a frame can have.
 const SHORTEST: usize = 4;
 
 const LONGEST: usize = 256;
 
-// The frame's fault, 0 for none.
-pub fn frame_fault(frame: &[u8]) -> u8
-    ensures { result ≡ frame_fault frame.now }
+// The frame's fault.
+pub fn frame_fault(frame: &[u8]) -> Result<(), Refusal>
+    ensures { number_given result ≡ frame_fault frame.now }
 {
     let length = frame.len();
     match length {
         SHORTEST..=LONGEST => if crc::is_right(frame) {
-            NONE
+            Ok(())
         } else {
-            WRONG_CRC
+            Err(Refusal::WrongCrc)
         },
-        _ => WRONG_FRAME_LENGTH,
+        _ => Err(Refusal::WrongFrameLength),
     }
 }
 
-// The caller's fault, or else the frame's, 0 for none.
-fn refusal(table: &[i32], reply: &[u8], address: u8, frame: &[u8]) -> u8
-    ensures { result
+// The caller's fault, or else the frame's.
+fn refusal(table: &[i32], reply: &[u8], address: u8, frame: &[u8]) -> Result<(), Refusal>
+    ensures { number_given result
         ≡ refusal (record { table = table.now; buffer = reply.now; address = address })
         (frame_fault frame.now) }
 {
-    let fault = call::fault(table, reply, address);
-    if fault != NONE {
-        return fault;
-    }
+    call::fault(table, reply, address)?;
     frame_fault(frame)
 }
 
@@ -63,7 +56,7 @@ fn answer(table: &mut [i32], reply: &mut [u8], address: u8, frame: &[u8]) -> Ans
     if answered.len == 0 {
         return answered;
     }
-    let len = crc::seal(reply, answered.len);
+    let len = crc::seal(reply, answered.len).unwrap();
     Answered {
         number: answered.number,
         len,
@@ -75,9 +68,11 @@ pub fn frame(table: &mut [i32], reply: &mut [u8], address: u8, frame: &[u8]) -> 
     ensures { Acts (record { table = table.old; buffer = reply.old; address = address })
         frame.now result reply.new table.new }
 {
-    let number = refusal(&table[..], &reply[..], address, frame);
-    if number != NONE {
-        return Answered { number, len: 0 };
+    if let Err(refusal) = refusal(&table[..], &reply[..], address, frame) {
+        return Answered {
+            number: refusal.number(),
+            len: 0,
+        };
     }
     answer(table, reply, address, frame)
 }

@@ -1,5 +1,6 @@
 -- The decimal point chosen on site: what is claimed in specs/Point.antt of every message.
 -- Assumes nothing.
+use Rattle.std.specs.Prelude.{Option, Some, None}
 use mathlib.Core.Path.{◌≡◌, refl, sym, ap, ap₂, ◌∙◌}
 use mathlib.Core.Logic.{◌≢◌, inl, inr, ⊎_elim}
 use mathlib.Core.Bool.{Bool, true, false, cond}
@@ -11,8 +12,6 @@ use lib.Dec.{eqb, ltb}
 use lib.IntN.{ℤ}
 use Rattle.numbers.specs.Numbers.{none, unless, unless_met}
 use Rattle.items.specs.ItemList.{Item, items, item_at, found_by_register, place_of}
-use Rattle.items.specs.declared.Found.{Found}
-use Rattle.items.specs.declared.Found.TheVariants.{At, Nothing}
 use Rattle.items.proofs.Lists.{line-past}
 use Rattle.items.proofs.Lookup.{found-register, own-place}
 use Rattle.table.specs.Table.{XU, answered, SameButXU}
@@ -53,9 +52,9 @@ module _ (t u : List ℤ) (same : SameButXU t u) where
   unfolding answered register_at
   register-stays r other = by (found_by_register r) refl
     where
-      by : (f : Found) → found_by_register r ≡ f → read_as u f ≡ read_as t f
-      by (At j) e = ap to_register (same.others j (λ z. other (sym (found-register r j e).1 ∙ ap (λ (k : ℕ). (item_at k).register) z)))
-      by Nothing e = refl
+      by : (f : Option ℕ) → found_by_register r ≡ f → read_as u f ≡ read_as t f
+      by (Some j) e = ap to_register (same.others j (λ z. other (sym (found-register r j e).1 ∙ ap (λ (k : ℕ). (item_at k).register) z)))
+      by None e = refl
 
   registers-stay : (r n : ℕ) → Outside r n xu_register → registers_from u r n ≡ registers_from t r n
   registers-stay r zero o = refl

@@ -8,7 +8,6 @@ ghost use Rattle.settings.specs.Settings.{data_of, writes_of, right_form, accept
 
 use modbus::{WRITE_REGISTER, WRITE_SEVERAL};
 use registers::{BODY_LENGTH, DATA_PLACE};
-use writes::Given;
 
 // Where the value of 06H stands.
 const VALUE_PLACE: usize = 4;
@@ -61,7 +60,7 @@ pub fn accepts_write(address: u8, body: &[u8]) -> bool
 }
 
 // What a message gives the item at a place.
-pub fn given_by(body: &[u8], item: usize) -> Given
+pub fn given_by(body: &[u8], item: usize) -> Option<i32>
     ensures { result ≡ given (writes_of body.now) item }
 {
     writes::given_to(registers::first_word(body), data_of(body), item)

@@ -9,7 +9,7 @@ use Rattle.table.specs.Table.{start_values, entry}
 use Rattle.line.specs.Line.{STX, ETX, EOT, ACK, sent, bcc}
 use Rattle.text.specs.Numbers.{width}
 use Rattle.text.specs.Writing.{written}
-use Rattle.text.specs.declared.Written.{Written}
+use Rattle.text.specs.Writing.{Written}
 use Rattle.phases.specs.Phases.{rest}
 use Rattle.rkc.specs.State.{in_phase}
 use Rattle.rkc.specs.Outcome.{Outcome, silent, received}

@@ -1,5 +1,6 @@
 -- Nothing is lost between two calls: the state that a call hands back is the one that the next call finds in its bytes.
 -- Assumes nothing.
+use Rattle.std.specs.Prelude.{Option, Some, None}
 use mathlib.Core.Path.{◌≡◌, refl, ◌∙◌}
 use mathlib.Core.Bool.{Bool, true, false, cond, ◌&&◌}
 use mathlib.Core.List.{List}
@@ -13,8 +14,6 @@ use lib.Seq.{length-slice}
 use Rattle.numbers.specs.Numbers.{none}
 use Rattle.numbers.proofs.Tests.{chosen}
 use Rattle.kept.proofs.Cut.{up-to-length}
-use Rattle.items.specs.declared.Found.{Found}
-use Rattle.items.specs.declared.Found.TheVariants.{At, Nothing}
 use Rattle.items.specs.ItemList.{found}
 use Rattle.phases.specs.Phases.{one_character, two_characters, waiting}
 use Rattle.phases.specs.declared.Act.{Act}
@@ -79,9 +78,9 @@ module _ (structure time : ℕ) (t : List ℤ) (h : time < 2 ^ 32) where
   item-whole i =
       chosen LeavesWhole (eqb (item_text t i).number none) (λ _. waiting-whole _ time h) (λ _. in-phase-whole _)
 
-  polled-whole : (f : Found) → LeavesWhole (polled structure time t f)
-  polled-whole (At i) = item-whole i
-  polled-whole Nothing = in-phase-whole _
+  polled-whole : (f : Option ℕ) → LeavesWhole (polled structure time t f)
+  polled-whole (Some i) = item-whole i
+  polled-whole None = in-phase-whole _
 
   judged-whole : (l : Link) (c : ℕ) → LeavesWhole (judged structure t l c).step
   judged-whole l c =

@@ -1,11 +1,10 @@
 -- The lent table: one entry per item, in the list's order. The alarm states, AA and AB, stand in it and are kept true; XU gives the
 -- decimals of some items.
-use Rattle.std.specs.Prelude.{ℕ, suc, ◌-◌, ◌≡◌, ◌≢◌, Bool, true, false, not, cond, ◌&&◌, ◌||◌, List, [], ◌∷◌, map, eqb, ltb, ℤ, pos, nat_abs, get_or, set, length}
+use Rattle.std.specs.Prelude.{ℕ, suc, ◌-◌, ◌≡◌, ◌≢◌, Bool, true, false, not, cond, ◌&&◌, ◌||◌, List, [], ◌∷◌, map, eqb, ltb, ℤ, pos, nat_abs, get_or, set, length, Some}
 use Rattle.std.specs.Int.Signed.{le_z}
 use Rattle.numbers.specs.Numbers.{none, unless, first_met, unless_met}
 use Rattle.sign.specs.Sign.{eq_z}
 use Rattle.items.specs.ItemList.{Item, items, listed, item_list, from_low_to_high, in_range, found}
-use Rattle.items.specs.declared.Found.TheVariants.{At}
 
 -- the numbers given back here; 2 is also given for an alarm state that is not true, and 7 for a put to one
 abbrev pub wrong_length : ℕ
@@ -48,12 +47,12 @@ XU = 12
 
 -- they are the places at which these identifiers are found: 4DH is M, 41H A, 42H B, 31H 1, 32H 2, 58H X and 55H U
 pub record Places : Type 0 where
-  pub measured : found 0x4D 0x31 ≡ At M1
-  pub state1 : found 0x41 0x41 ≡ At AA
-  pub state2 : found 0x41 0x42 ≡ At AB
-  pub alarm1 : found 0x41 0x31 ≡ At A1
-  pub alarm2 : found 0x41 0x32 ≡ At A2
-  pub decimals : found 0x58 0x55 ≡ At XU
+  pub measured : found 0x4D 0x31 ≡ Some M1
+  pub state1 : found 0x41 0x41 ≡ Some AA
+  pub state2 : found 0x41 0x42 ≡ Some AB
+  pub alarm1 : found 0x41 0x31 ≡ Some A1
+  pub alarm2 : found 0x41 0x32 ≡ Some A2
+  pub decimals : found 0x58 0x55 ≡ Some XU
 
 -- whether an item is one of the two
 abbrev pub is_alarm_state : ℕ → Bool

@@ -4,11 +4,12 @@
 
 ghost use Rattle.std.specs.Prelude.{◌≡◌, length, set};
 ghost use Rattle.numbers.specs.Promise.{Lent};
+ghost use Rattle.numbers.specs.Refusals.{number_given};
 ghost use Rattle.items.specs.ItemList.{items, item_list};
 ghost use Rattle.table.specs.Table.{is_alarm_state, entry, alarm, alarms_agree, alarms_kept, all_in_range, table_fault};
 ghost use Rattle.table.specs.Table.{xu_of, start_number, start_table, answered, stored, may_put, put_number, put_table};
 
-use numbers::NONE;
+use numbers::Refusal;
 
 // The places of the alarm states, AA and AB, and of the items that they go by.
 const M1: usize = 0;
@@ -23,15 +24,6 @@ const A2: usize = 7;
 
 // The place of XU.
 const XU: usize = 12;
-
-// Numbers given back. 2 is also given for an alarm state that is not true, and 7 for a put to one.
-pub const WRONG_LENGTH: u8 = 1;
-
-pub const ENTRY_OUTSIDE: u8 = 2;
-
-pub const NO_SUCH_ITEM: u8 = 6;
-
-pub const VALUE_OUTSIDE: u8 = 7;
 
 // ---- entries
 
@@ -112,32 +104,32 @@ fn all_in_range(table: &[i32]) -> bool
     inside
 }
 
-// The table's fault: WRONG_LENGTH, ENTRY_OUTSIDE, or NONE. Alarm states and ranges have one number, so it does not show which is
-// looked at first; with the alarm states first it costs less.
-pub fn check(table: &[i32]) -> u8
-    ensures { result ≡ table_fault table.now }
+// The table's fault. Alarm states and ranges have one number, so it does not show which is looked at first; with the alarm states first
+// it costs less.
+pub fn check(table: &[i32]) -> Result<(), Refusal>
+    ensures { number_given result ≡ table_fault table.now }
 {
     if table.len() != items::ITEMS {
-        return WRONG_LENGTH;
+        return Err(Refusal::WrongLength);
     }
     if !alarms_agree(table) {
-        return ENTRY_OUTSIDE;
+        return Err(Refusal::EntryOutside);
     }
     if all_in_range(table) {
-        NONE
+        Ok(())
     } else {
-        ENTRY_OUTSIDE
+        Err(Refusal::EntryOutside)
     }
 }
 
 // ---- what is done with the table
 
 // Every item takes its start value; a table of another length is left as it is.
-pub fn start(table: &mut [i32]) -> u8
-    ensures { Lent (start_number table.old) (start_table table.old) result table.new }
+pub fn start(table: &mut [i32]) -> Result<(), Refusal>
+    ensures { Lent (start_number table.old) (start_table table.old) (number_given result) table.new }
 {
     if table.len() != items::ITEMS {
-        return WRONG_LENGTH;
+        return Err(Refusal::WrongLength);
     }
     let mut i = 0;
     while i < items::ITEMS {
@@ -145,7 +137,7 @@ pub fn start(table: &mut [i32]) -> u8
         table[i] = first;
         i += 1;
     }
-    NONE
+    Ok(())
 }
 
 // What either line answers for an item: its entry.
@@ -189,22 +181,19 @@ fn may_put(i: usize, value: i32) -> bool
 }
 
 // The firmware sets an item, by its number from 1, to any value in its range. An alarm state it cannot set.
-pub fn put(table: &mut [i32], number: u32, value: i32) -> u8
+pub fn put(table: &mut [i32], number: u32, value: i32) -> Result<(), Refusal>
     ensures { Lent (put_number table.old number value)
-        (put_table table.old number value) result table.new }
+        (put_table table.old number value) (number_given result) table.new }
 {
-    let fault = check(&table[..]);
-    if fault != NONE {
-        return fault;
-    }
+    check(&table[..])?;
     if !items::listed(number) {
-        return NO_SUCH_ITEM;
+        return Err(Refusal::NoSuchItem);
     }
     let i = number as usize - 1;
     if may_put(i, value) {
         store(table, i, value);
-        NONE
+        Ok(())
     } else {
-        VALUE_OUTSIDE
+        Err(Refusal::ValueOutside)
     }
 }

@@ -1,8 +1,8 @@
--- The numbers that a reading or a writing gives back, the widths that a number can have, and the most decimals.
-use Rattle.std.specs.Prelude.{ℕ, ◌+◌, ℤ, pos}
-use Rattle.numbers.specs.Numbers.{none}
-use Rattle.text.specs.declared.Reading.{Reading}
-use Rattle.text.specs.declared.Reading.TheVariants.{Value, Decimals, TooLong, NoNumber}
+-- The numbers that a reading or a writing gives back, the widths that a number can have, and the most decimals. What a reading is that gives
+-- one of them stands in numbers: `number_given`, and `value_of` here.
+use Rattle.std.specs.Prelude.{ℕ, ◌+◌, Result, ℤ, pos}
+use Rattle.numbers.specs.declared.Refusal.{Refusal}
+use Rattle.numbers.specs.Refusals.{value_or}
 
 -- how many characters a number has on the RKC line: as many when it is written, at most as many when it is read
 abbrev pub width : ℕ
@@ -31,16 +31,6 @@ over_six_characters = 15
 abbrev pub no_number : ℕ
 no_number = 16
 
--- the number given back for each reading
-abbrev pub number_of : Reading → ℕ
-number_of (Value v) = none
-number_of Decimals = too_many_decimals
-number_of TooLong = over_six_characters
-number_of NoNumber = no_number
-
 -- the value read, 0 where it was refused
-abbrev pub value_of : Reading → ℤ
-value_of (Value v) = v
-value_of Decimals = pos 0
-value_of TooLong = pos 0
-value_of NoNumber = pos 0
+abbrev pub value_of : Result ℤ Refusal → ℤ
+value_of = value_or (pos 0)

@@ -1,11 +1,12 @@
 -- The characters of a value in a text `width` characters wide: a minus first if it is below zero, zeros on the left, the point
 -- before the last d digits.
-use Rattle.std.specs.Prelude.{ℕ, zero, suc, ◌+◌, ◌-◌, ◌/◌, ◌%◌, ◌^◌, Bool, true, false, List, [], ◌∷◌, ◌++◌, leb, ltb, ℤ, pos, nat_abs, length, take, drop, replicate}
+use Rattle.std.specs.Prelude.{ℕ, zero, suc, ◌+◌, ◌-◌, ◌/◌, ◌%◌, ◌^◌, Bool, true, false, List, [], ◌∷◌, ◌++◌, leb, ltb, ℤ, pos, nat_abs, length, take, drop, replicate, Result, Ok, Err}
 use Rattle.std.specs.Int.Signed.{lt_z}
+use Rattle.numbers.specs.declared.Refusal.{Refusal}
 use Rattle.numbers.specs.Numbers.{none, unless, first_met, unless_met}
+use Rattle.numbers.specs.Refusals.{number_of}
 use Rattle.text.specs.Characters.{minus_sign, point, zero_digit}
 use Rattle.text.specs.Numbers.{most_decimals, does_not_fit, too_many_decimals}
-use Rattle.text.specs.declared.Written.{Written}
 
 -- the last k digits of n, zeros on the left
 abbrev pub digits : ℕ → ℕ → List ℕ
@@ -41,6 +42,11 @@ text_of width d minus size = sign_text minus ++ pointed d (digits (room width d 
 unfoldable pub text : ℕ → ℕ → ℤ → List ℕ
 text width d v = text_of width d (lt_z v (pos 0)) (nat_abs v)
 
+-- the number given back, and the characters
+pub record Written : Type 0 where
+  pub number : ℕ
+  pub chars : List ℕ
+
 -- characters, and no number
 abbrev pub accepted : List ℕ → Written
 accepted cs = record { number = none; chars = cs }
@@ -60,3 +66,8 @@ write_number width d v =
 -- the characters of the value, or the refusal
 unfoldable pub written : ℕ → ℕ → ℤ → Written
 written width d v = unless_met (write_number width d v) (refusal width) (accepted (text width d v))
+
+-- what an outcome of the code is: characters, or a refusal
+abbrev pub written_as : ℕ → Result (List ℕ) Refusal → Written
+written_as width (Ok cs) = accepted cs
+written_as width (Err r) = refusal width (number_of r)

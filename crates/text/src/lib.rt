@@ -5,11 +5,11 @@
 ghost use Rattle.std.specs.Prelude.{◌≡◌, false, ◌+◌, ◌-◌, ◌/◌, ◌<◌, ◌≤◌, ◌^◌, length};
 ghost use Rattle.sign.specs.Sign.{made};
 ghost use Rattle.text.specs.Characters.{is_digit};
-ghost use Rattle.text.specs.Numbers.{width, least_width, most_width, most_decimals, number_of, value_of};
+ghost use Rattle.text.specs.Numbers.{width, least_width, most_width, most_decimals};
 ghost use Rattle.text.specs.Reading.{digits_from, of_parts, of_unsigned, point_at, ReadAs};
-ghost use Rattle.text.specs.Writing.{refusal, room, text_of, written};
+ghost use Rattle.text.specs.Writing.{room, text_of, written, written_as};
 
-use numbers::NONE;
+use numbers::Refusal;
 
 // How many characters a number has: as many when it is written, at most as many when it is read.
 pub const WIDTH: usize = 6;
@@ -18,56 +18,6 @@ pub const WIDTH: usize = 6;
 pub const MOST_WIDTH: usize = 6;
 
 const MOST_DECIMALS: u8 = 3;
-
-// The numbers given back where text or a value is refused.
-pub const DOES_NOT_FIT: u8 = 8;
-
-pub const TOO_MANY_DECIMALS: u8 = 9;
-
-pub const OVER_SIX_CHARACTERS: u8 = 15;
-
-pub const NO_NUMBER: u8 = 16;
-
-// What the characters of a number say: its value, or why they have none. Decimals: over three of them were asked for.
-// TooLong: over six characters.
-#[derive(Clone, Copy)]
-pub enum Reading {
-    Value(i32),
-    Decimals,
-    TooLong,
-    NoNumber,
-}
-
-impl Reading {
-    // The number given back for this reading.
-    pub fn number(self) -> u8
-        ensures { result ≡ number_of self }
-    {
-        match self {
-            Reading::Value(_) => NONE,
-            Reading::Decimals => TOO_MANY_DECIMALS,
-            Reading::TooLong => OVER_SIX_CHARACTERS,
-            Reading::NoNumber => NO_NUMBER,
-        }
-    }
-
-    // The value read, 0 where there is none.
-    pub fn value(self) -> i32
-        ensures { result ≡ value_of self }
-    {
-        let Reading::Value(v) = self else {
-            return 0;
-        };
-        v
-    }
-}
-
-// What a run of characters says where each of them must be a digit.
-#[derive(Clone, Copy)]
-enum Digits {
-    Number(u32),
-    Other,
-}
 
 const TENS: [u32; MOST_WIDTH + 1] = [1, 10, 100, 1000, 10000, 100000, 1000000];
 
@@ -99,8 +49,8 @@ fn is_digit(c: u8) -> bool
     b'0' <= c && c <= b'9'
 }
 
-// The number that these digits write after the digits of `from`.
-fn digits_from(from: u32, chars: &[u8]) -> Digits
+// The number that these characters write after the digits of `from`, where each of them is a digit.
+fn digits_from(from: u32, chars: &[u8]) -> Option<u32>
     requires { (length chars.now ≤ most_width) × (from < 10 ^ (most_width - length chars.now)) }
     ensures { result ≡ digits_from from chars.now }
 {
@@ -111,11 +61,11 @@ fn digits_from(from: u32, chars: &[u8]) -> Digits
         if is_digit(c) {
             n = n * 10 + (c - b'0') as u32;
         } else {
-            return Digits::Other;
+            return None;
         }
         i += 1;
     }
-    Digits::Number(n)
+    Some(n)
 }
 
 // A size over a power of ten. The quotient cuts the fraction off, and the sign comes last, so that the cut is toward zero.
@@ -127,26 +77,22 @@ fn cut_off(minus: bool, size: u32, tens: u32) -> i32
 }
 
 // What the characters before and after the point say.
-fn of_parts(minus: bool, decimals: usize, whole: &[u8], fraction: &[u8]) -> Reading
+fn of_parts(minus: bool, decimals: usize, whole: &[u8], fraction: &[u8]) -> Result<i32, Refusal>
     requires { (decimals ≤ most_decimals) × (length whole.now + length fraction.now ≤ most_width) }
     ensures { result ≡ of_parts minus decimals whole.now fraction.now }
 {
-    let Digits::Number(front) = digits_from(0, whole) else {
-        return Reading::NoNumber;
-    };
-    let Digits::Number(n) = digits_from(front, fraction) else {
-        return Reading::NoNumber;
-    };
+    let front = digits_from(0, whole).ok_or(Refusal::NoNumber)?;
+    let n = digits_from(front, fraction).ok_or(Refusal::NoNumber)?;
     let places = fraction.len();
     if whole.len() + places == 0 {
-        return Reading::NoNumber;
+        return Err(Refusal::NoNumber);
     }
     let size = n * power(decimals);
-    Reading::Value(cut_off(minus, size, power(places)))
+    Ok(cut_off(minus, size, power(places)))
 }
 
 // What the characters after the sign say. This and `read_in` call what comes next in one place, so that it is compiled once.
-fn of_unsigned(minus: bool, decimals: usize, chars: &[u8]) -> Reading
+fn of_unsigned(minus: bool, decimals: usize, chars: &[u8]) -> Result<i32, Refusal>
     requires { (decimals ≤ most_decimals) × (length chars.now ≤ most_width) }
     ensures { result ≡ of_unsigned minus decimals chars.now }
 {
@@ -160,18 +106,18 @@ fn of_unsigned(minus: bool, decimals: usize, chars: &[u8]) -> Reading
 }
 
 // What at most `width` characters say of a value with so many decimals.
-fn read_in(width: usize, decimals: u8, chars: &[u8]) -> Reading
+fn read_in(width: usize, decimals: u8, chars: &[u8]) -> Result<i32, Refusal>
     requires { width ≤ most_width }
     ensures { ReadAs width decimals chars.now result }
 {
     if decimals > MOST_DECIMALS {
-        return Reading::Decimals;
+        return Err(Refusal::TooManyDecimals);
     }
     if chars.len() > width {
-        return Reading::TooLong;
+        return Err(Refusal::OverSixCharacters);
     }
     if chars.len() == 0 {
-        return Reading::NoNumber;
+        return Err(Refusal::NoNumber);
     }
     let minus = chars[0] == b'-';
     of_unsigned(minus, decimals as usize, &chars[minus as usize..])
@@ -179,26 +125,10 @@ fn read_in(width: usize, decimals: u8, chars: &[u8]) -> Reading
 
 // What the characters say of a value with so many decimals. They are lent on anew, so that the compiler hands on where they stand
 // and not where that is written.
-pub fn read(decimals: u8, chars: &[u8]) -> Reading
+pub fn read(decimals: u8, chars: &[u8]) -> Result<i32, Refusal>
     ensures { ReadAs width decimals chars.now result }
 {
     read_in(WIDTH, decimals, &chars[..])
-}
-
-// The characters of a value, or the number of a refusal and no characters.
-#[derive(Clone, Copy)]
-pub struct Written {
-    pub number: u8,
-    pub chars: [u8; MOST_WIDTH],
-}
-
-fn refused(number: u8) -> Written
-    ensures { result ≡ refusal most_width number }
-{
-    Written {
-        number,
-        chars: [0; MOST_WIDTH],
-    }
 }
 
 // The least size that has no room beside the minus and the point: ten to the places that are left.
@@ -257,29 +187,25 @@ fn layout(minus: bool, decimals: u8, size: u32) -> [u8; MOST_WIDTH]
 }
 
 // The value with its decimals in `width` characters.
-fn write_in(width: usize, decimals: u8, value: i32) -> Written
+fn write_in(width: usize, decimals: u8, value: i32) -> Result<[u8; MOST_WIDTH], Refusal>
     requires { (least_width ≤ width) × (width ≤ most_width) }
-    ensures { result ≡ written width decimals value }
+    ensures { written_as most_width result ≡ written width decimals value }
 {
     if MOST_DECIMALS < decimals {
-        return refused(TOO_MANY_DECIMALS);
+        return Err(Refusal::TooManyDecimals);
     }
     let minus = sign::less(value, 0);
     let size = sign::size(value);
     if size < limit(width, decimals, minus) {
-        let chars = layout(minus, decimals, size);
-        Written {
-            number: NONE,
-            chars,
-        }
+        Ok(layout(minus, decimals, size))
     } else {
-        refused(DOES_NOT_FIT)
+        Err(Refusal::DoesNotFit)
     }
 }
 
 // The value with its decimals in six characters.
-pub fn write(decimals: u8, value: i32) -> Written
-    ensures { result ≡ written width decimals value }
+pub fn write(decimals: u8, value: i32) -> Result<[u8; MOST_WIDTH], Refusal>
+    ensures { written_as width result ≡ written width decimals value }
 {
     write_in(WIDTH, decimals, value)
 }

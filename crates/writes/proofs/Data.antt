@@ -1,5 +1,6 @@
 -- The writes that bytes of data ask for, by those that are left: one for each two bytes.
 -- Assumes nothing.
+use Rattle.std.specs.Prelude.{Option, Some, None}
 use mathlib.Core.Path.{◌≡◌, refl, sym, ap, ◌∙◌}
 use mathlib.Core.Bool.{Bool, true, false, cond}
 use mathlib.Core.List.{List, [], ◌∷◌, map}
@@ -18,8 +19,6 @@ use Rattle.items.proofs.Lookup.{place-small, held-inside}
 use Rattle.table.specs.Table.{stored}
 use Rattle.registers.specs.Register.{of_register, word}
 use Rattle.writes.specs.Writes.{Write, writes, each, stored_all, later, given}
-use Rattle.writes.specs.declared.Given.{Given}
-use Rattle.writes.specs.declared.Given.TheVariants.{Value, Nothing}
 
 -- what is left of a body from a place on is the part that ends where the body ends
 pub to_the_end : (place : ℕ) (body : List ℕ) → take (length body - place) (drop place body) ≡ drop place body
@@ -96,33 +95,33 @@ module _ (start : ℕ) (bytes : List ℕ) where
 
   -- what is given by the writes that are left: the last that is the item's counts, so what they give is given by all
   module _ (item : ℕ) where
-    abbrev pub GivenFrom : ℕ → Given → Type 0
+    abbrev pub GivenFrom : ℕ → Option ℤ → Type 0
     GivenFrom i g = given (left i) item ≡ g
 
-    pub gives_none : (i : ℕ) → length bytes / 2 ≤ i → GivenFrom i Nothing
+    pub gives_none : (i : ℕ) → length bytes / 2 ≤ i → GivenFrom i None
     gives_none i h = ap (λ (ws : List Write). given ws item) (none_left i h)
 
     -- where those behind it give nothing, this one decides
-    gives-here : (i : ℕ) → GivenFrom (i + 1) Nothing → i < length bytes / 2
-        → GivenFrom i (cond (eqb (at i).place item) (Value (at i).value) Nothing)
+    gives-here : (i : ℕ) → GivenFrom (i + 1) None → i < length bytes / 2
+        → GivenFrom i (cond (eqb (at i).place item) (Some (at i).value) None)
     gives-here i so h =
         ap (λ (ws : List Write). given ws item) (one_left i h)
-        ∙ ap (λ (g : Given). later g (cond (eqb (at i).place item) (Value (at i).value) Nothing)) so
+        ∙ ap (λ (g : Option ℤ). later g (cond (eqb (at i).place item) (Some (at i).value) None)) so
 
-    pub gives-this : (i : ℕ) → GivenFrom (i + 1) Nothing → i < length bytes / 2 → (at i).place ≡ item → GivenFrom i (Value (at i).value)
+    pub gives-this : (i : ℕ) → GivenFrom (i + 1) None → i < length bytes / 2 → (at i).place ≡ item → GivenFrom i (Some (at i).value)
     gives-this i so h e = gives-here i so h ∙ rw (eq-eqb (at i).place item e)
 
-    pub gives-on : (i : ℕ) → GivenFrom (i + 1) Nothing → i < length bytes / 2 → ((at i).place ≡ item → ⊥) → GivenFrom i Nothing
+    pub gives-on : (i : ℕ) → GivenFrom (i + 1) None → i < length bytes / 2 → ((at i).place ≡ item → ⊥) → GivenFrom i None
     gives-on i so h e = gives-here i so h ∙ rw (ne_eqb (at i).place item e)
 
     -- a value that is given stays given by more of the writes
-    pub value_stays : (i : ℕ) {v : ℤ} → i ≤ length bytes / 2 → GivenFrom i (Value v) → given (writes start bytes) item ≡ Value v
+    pub value_stays : (i : ℕ) {v : ℤ} → i ≤ length bytes / 2 → GivenFrom i (Some v) → given (writes start bytes) item ≡ Some v
     value_stays zero h g = ap (λ (ws : List Write). given ws item) (sym all_left) ∙ g
     value_stays (suc i) {v} h g =
-        let next : GivenFrom (i + 1) (Value v) = rw (add-one i) g in
+        let next : GivenFrom (i + 1) (Some v) = rw (add-one i) g in
         value_stays i (omega arith)
         (ap (λ (ws : List Write). given ws item) (one_left i (omega arith))
-        ∙ ap (λ (x : Given). later x (cond (eqb (at i).place item) (Value (at i).value) Nothing)) next)
+        ∙ ap (λ (x : Option ℤ). later x (cond (eqb (at i).place item) (Some (at i).value) None)) next)
 
-    pub none-given : GivenFrom 0 Nothing → given (writes start bytes) item ≡ Nothing
+    pub none-given : GivenFrom 0 None → given (writes start bytes) item ≡ None
     none-given g = ap (λ (ws : List Write). given ws item) (sym all_left) ∙ g

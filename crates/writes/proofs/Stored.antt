@@ -1,5 +1,6 @@
 -- The table after a list of writes: what each entry becomes, and what writes that are allowed leave alone.
 -- Assumes nothing.
+use Rattle.std.specs.Prelude.{Option, Some, None}
 use mathlib.Core.Path.{◌≡◌, refl, sym, ap, ◌∙◌}
 use mathlib.Core.Logic.{inl}
 use mathlib.Core.Bool.{Bool, true, false, cond}
@@ -16,33 +17,31 @@ use Rattle.table.specs.Table.{is_alarm_state, good_table, entry, stored}
 use Rattle.table.proofs.Laws.{good-stored, stored-length, stored_same, stored_other, stored-read-only}
 use Rattle.table.proofs.Laws.{StaysOrInRange, stays_then, stored-in-range}
 use Rattle.writes.specs.Writes.{Write, writable, inside, allowed, each, stored_all, later, given, over}
-use Rattle.writes.specs.declared.Given.{Given}
-use Rattle.writes.specs.declared.Given.TheVariants.{Value, Nothing}
 
 -- ---- what an item is given, one thing after the other
 
-pub later-none : (g : Given) → later g Nothing ≡ g
-later-none (Value v) = refl
-later-none Nothing = refl
+pub later-none : (g : Option ℤ) → later g None ≡ g
+later-none (Some v) = refl
+later-none None = refl
 
-pub later-assoc : (g h k : Given) → later (later g h) k ≡ later g (later h k)
-later-assoc (Value v) h k = refl
-later-assoc Nothing h k = refl
+pub later-assoc : (g h k : Option ℤ) → later (later g h) k ≡ later g (later h k)
+later-assoc (Some v) h k = refl
+later-assoc None h k = refl
 
 -- an entry becomes what it is given first, and over that what it is given later
-pub over-later : (v : ℤ) (g h : Given) → over (over v h) g ≡ over v (later g h)
-over-later v (Value w) h = refl
-over-later v Nothing h = refl
+pub over-later : (v : ℤ) (g h : Option ℤ) → over (over v h) g ≡ over v (later g h)
+over-later v (Some w) h = refl
+over-later v None h = refl
 
 -- ---- each entry
 
 -- what one write makes of an entry
 one-given : (t : List ℤ) (w : Write) (i : ℕ) → is_alarm_state i ≡ false → i < length t
-    → entry (stored t w.place w.value) i ≡ over (entry t i) (cond (eqb w.place i) (Value w.value) Nothing)
+    → entry (stored t w.place w.value) i ≡ over (entry t i) (cond (eqb w.place i) (Some w.value) None)
 one-given t w i o h = by (eqb w.place i) refl
   where
     by : (b : Bool) → eqb w.place i ≡ b
-        → entry (stored t w.place w.value) i ≡ over (entry t i) (cond b (Value w.value) Nothing)
+        → entry (stored t w.place w.value) i ≡ over (entry t i) (cond b (Some w.value) None)
     by true e =
         let here = eqb-true w.place i e in
         ap (entry (stored t w.place w.value)) (sym here)
@@ -56,7 +55,7 @@ all-given t [] i o h = refl
 all-given t (w ∷ ws) i o h =
     all-given (stored t w.place w.value) ws i o (rw (stored-length t w.place w.value) h)
     ∙ ap (λ (v : ℤ). over v (given ws i)) (one-given t w i o h)
-    ∙ over-later (entry t i) (given ws i) (cond (eqb w.place i) (Value w.value) Nothing)
+    ∙ over-later (entry t i) (given ws i) (cond (eqb w.place i) (Some w.value) None)
 
 -- ---- writes that are allowed
 
@@ -69,7 +68,7 @@ all-read-only t (w ∷ ws) j a r o =
     all-read-only (stored t w.place w.value) ws j p.1 r o ∙ stored-read-only t w.place j w.value p.0 r o
 
 -- they give a read-only item nothing
-pub read-only-given : (ws : List Write) (i : ℕ) → each allowed ws ≡ true → (item_at i).writable ≡ false → given ws i ≡ Nothing
+pub read-only-given : (ws : List Write) (i : ℕ) → each allowed ws ≡ true → (item_at i).writable ≡ false → given ws i ≡ None
 read-only-given [] i a r = refl
 read-only-given (w ∷ ws) i a r =
     let p = both (allowed w) (each allowed ws) a in

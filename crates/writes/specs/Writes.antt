@@ -1,12 +1,10 @@
 -- What a request to write asks for, as a list of writes: whether it is allowed, and what it leaves of the table.
-use Rattle.std.specs.Prelude.{ℕ, suc, ◌+◌, ◌≤◌, ◌<◌, ◌⊎◌, Bool, true, false, cond, ◌&&◌, List, [], ◌∷◌, eqb, ℤ}
+use Rattle.std.specs.Prelude.{ℕ, suc, ◌+◌, ◌≤◌, ◌<◌, ◌⊎◌, Bool, true, false, cond, ◌&&◌, List, [], ◌∷◌, eqb, ℤ, Option, Some, None}
 use Rattle.numbers.specs.Numbers.{unless, first_met, unless_met}
 use Rattle.items.specs.ItemList.{item_at, in_range, place_of}
 use Rattle.table.specs.Table.{stored}
 use Rattle.registers.specs.Register.{of_register, word}
 use Rattle.registers.specs.Faults.{wrong_register, wrong_data}
-use Rattle.writes.specs.declared.Given.{Given}
-use Rattle.writes.specs.declared.Given.TheVariants.{Value, Nothing}
 
 -- a write: the place of an item, past the list where a register is no item's, and the value that it takes
 pub record Write : Type 0 where
@@ -65,21 +63,21 @@ stored_unless fault t ws = unless_met fault (λ number. t) (stored_all t ws)
 -- ---- what an item is given: a value, or nothing
 
 -- a value is given, and not nothing
-abbrev pub is_value : Given → Bool
-is_value (Value v) = true
-is_value Nothing = false
+abbrev pub is_value : Option ℤ → Bool
+is_value (Some v) = true
+is_value None = false
 
 -- what is given later, and where that is nothing what was given before
-abbrev pub later : Given → Given → Given
-later (Value v) before = Value v
-later Nothing before = before
+abbrev pub later : Option ℤ → Option ℤ → Option ℤ
+later (Some v) before = Some v
+later None before = before
 
 -- what writes give the item at a place
-abbrev pub given : List Write → ℕ → Given
-given [] i = Nothing
-given (w ∷ ws) i = later (given ws i) (cond (eqb w.place i) (Value w.value) Nothing)
+abbrev pub given : List Write → ℕ → Option ℤ
+given [] i = None
+given (w ∷ ws) i = later (given ws i) (cond (eqb w.place i) (Some w.value) None)
 
 -- what an entry becomes by what it is given
-abbrev pub over : ℤ → Given → ℤ
-over v (Value new) = new
-over v Nothing = v
+abbrev pub over : ℤ → Option ℤ → ℤ
+over v (Some new) = new
+over v None = v

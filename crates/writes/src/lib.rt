@@ -3,55 +3,47 @@
 
 ghost use Rattle.std.specs.Prelude.{◌≡◌, ◌+◌, ◌*◌, ◌/◌, ◌≤◌, ◌<◌, length, get_or};
 ghost use Rattle.numbers.specs.Promise.{Lent};
+ghost use Rattle.numbers.specs.Refusals.{number_given};
 ghost use Rattle.items.specs.ItemList.{map_size, place_of};
 ghost use Rattle.registers.specs.Register.{of_register, word};
 ghost use Rattle.writes.specs.Writes.{writes, writable, inside, allowed, each, stored_all, given};
 ghost use Rattle.writes.specs.Requests.{write_fault, written_by_one, several_fault, written_by_several};
 
-use numbers::NONE;
-use registers::{BODY_LENGTH, DATA_PLACE, WRONG_DATA, WRONG_REGISTER};
-
-// What is given to an item.
-#[derive(Clone, Copy)]
-pub enum Given {
-    Value(i32),
-    Nothing,
-}
+use numbers::Refusal;
+use registers::{BODY_LENGTH, DATA_PLACE};
 
 // ---- 06H: a register and a value
 
-// The fault of a request to write one register, 0 for none.
-fn write_fault(body: &[u8]) -> u8
-    ensures { result ≡ write_fault body.now }
+// The fault of a request to write one register.
+fn write_fault(body: &[u8]) -> Result<(), Refusal>
+    ensures { number_given result ≡ write_fault body.now }
 {
     if body.len() != BODY_LENGTH {
-        return WRONG_DATA;
+        return Err(Refusal::WrongData);
     }
     let i = items::place_of(registers::first_word(body));
     if !items::writable(i) {
-        return WRONG_REGISTER;
+        return Err(Refusal::WrongRegister);
     }
     if items::in_range(i, registers::of_register(registers::second_word(body))) {
-        NONE
+        Ok(())
     } else {
-        WRONG_DATA
+        Err(Refusal::WrongData)
     }
 }
 
-// One register is written, or the number of its fault given back.
-pub fn write_one(table: &mut [i32], body: &[u8]) -> u8
+// One register is written, or the write refused for its fault.
+pub fn write_one(table: &mut [i32], body: &[u8]) -> Result<(), Refusal>
     ensures { Lent (write_fault body.now)
-        (written_by_one table.old body.now) result table.new }
+        (written_by_one table.old body.now) (number_given result) table.new }
 {
-    let fault = write_fault(body);
-    if fault == NONE {
-        table::store(
-            table,
-            items::place_of(registers::first_word(body)),
-            registers::of_register(registers::second_word(body)),
-        );
-    }
-    fault
+    write_fault(body)?;
+    table::store(
+        table,
+        items::place_of(registers::first_word(body)),
+        registers::of_register(registers::second_word(body)),
+    );
+    Ok(())
 }
 
 // ---- registers from a start on, and the bytes of their values
@@ -123,41 +115,38 @@ fn store_each(table: &mut [i32], start: usize, bytes: &[u8])
 
 // ---- 10H: a register to start from, a quantity, a byte count, and the values of the registers
 
-// The fault of a request to write several registers, 0 for none. A span that leaves the map has a register that is no item's; the sum
+// The fault of a request to write several registers. A span that leaves the map has a register that is no item's; the sum
 // is made in 64 bits, where it does not wrap. Every register is looked at before any value.
-fn several_fault(body: &[u8]) -> u8
-    ensures { result ≡ several_fault body.now }
+fn several_fault(body: &[u8]) -> Result<(), Refusal>
+    ensures { number_given result ≡ several_fault body.now }
 {
     if !registers::right_counts(body) {
-        return WRONG_DATA;
+        return Err(Refusal::WrongData);
     }
     let start = registers::first_word(body) as usize;
     let bytes = &body[DATA_PLACE..];
     if items::MAP_SIZE < start + bytes.len() / 2 || !each_writable(start, bytes) {
-        return WRONG_REGISTER;
+        return Err(Refusal::WrongRegister);
     }
     if each_in_range(start, bytes) {
-        NONE
+        Ok(())
     } else {
-        WRONG_DATA
+        Err(Refusal::WrongData)
     }
 }
 
-// Several registers are written, or the number of their fault given back. No value is stored before all are judged.
-pub fn write_several(table: &mut [i32], body: &[u8]) -> u8
+// Several registers are written, or the write refused for their fault. No value is stored before all are judged.
+pub fn write_several(table: &mut [i32], body: &[u8]) -> Result<(), Refusal>
     ensures { Lent (several_fault body.now)
-        (written_by_several table.old body.now) result table.new }
+        (written_by_several table.old body.now) (number_given result) table.new }
 {
-    let fault = several_fault(body);
-    if fault != NONE {
-        return fault;
-    }
+    several_fault(body)?;
     store_each(
         table,
         registers::first_word(body) as usize,
         &body[DATA_PLACE..],
     );
-    NONE
+    Ok(())
 }
 
 // ---- what data gives, where its request is allowed
@@ -200,15 +189,15 @@ pub fn all_allowed(start: u16, bytes: &[u8]) -> bool
 
 // What bytes of data for the registers from a start on give an item. The last of them that is the item's counts, so they are
 // looked at from the back.
-pub fn given_to(start: u16, bytes: &[u8], item: usize) -> Given
+pub fn given_to(start: u16, bytes: &[u8], item: usize) -> Option<i32>
     ensures { result ≡ given (writes start bytes.now) item }
 {
     let mut left = bytes.len() / 2;
     while 0 < left {
         left -= 1;
         if item_behind(start, left) == item {
-            return Given::Value(value_behind(bytes, left));
+            return Some(value_behind(bytes, left));
         }
     }
-    Given::Nothing
+    None
 }

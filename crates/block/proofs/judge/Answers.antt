@@ -1,4 +1,5 @@
 -- `block::judge`: each way out is one case of the block's numbers.
+use Rattle.std.specs.Prelude.{Some}
 use Rattle.std.proofs.Common.{◌≡◌, ◌≤◌, ◌<◌, ◌-◌, refl, take, drop, ℕ, ℤ, Bool, false, List, get_or, length, w32, to_z, of_z, arith, rules, sym, ap, ◌∙◌}
 use mathlib.Core.Path.{ap₂}
 use mathlib.Core.Bool.{◌||◌}
@@ -6,7 +7,6 @@ use borrow.Author.Tests.{le-leb, lt-leb}
 use Rattle.numbers.specs.Numbers.{none}
 use Rattle.line.specs.Line.{is_line_error}
 use Rattle.items.specs.ItemList.{item_at, decimals_of, found, in_range}
-use Rattle.items.specs.declared.Found.TheVariants.{At}
 use Rattle.text.specs.Numbers.{width, number_of}
 use Rattle.text.specs.Reading.{ReadAs}
 use Rattle.text.specs.declared.Reading.{Reading}
@@ -43,7 +43,7 @@ returns-in_default c =
 
 -- ---- for its item
 
-module _ (kept : List ℕ) (i : ℕ) (f : At i ≡ found (get_or kept 0 0) (get_or kept 1 0)) where
+module _ (kept : List ℕ) (i : ℕ) (f : Some i ≡ found (get_or kept 0 0) (get_or kept 1 0)) where
   -- it is the block's item
   item : block_item kept ≡ i
   item = place kept i (sym f)
@@ -75,15 +75,15 @@ refusal-met NoNumber other e = omega arith
 pub returns-then-end-gt-MOST_KEPT : goal.returns-then-end-gt-MOST_KEPT
 returns-then-end-gt-MOST_KEPT c =
     too_long
-    (named c.args.kept c.in-At.i c.in-At.ensures c.if-mark.false c.if-c-ge-TOP_BIT.false c.if-c-bcc.false c.if-count-lt-IDENTIFIER_LENGTH.false)
+    (named c.args.kept c.in-Some.i c.in-Some.ensures c.if-mark.false c.if-c-ge-TOP_BIT.false c.if-c-bcc.false c.if-count-lt-IDENTIFIER_LENGTH.false)
     c.if-end-gt-MOST_KEPT.true
 
 pub returns-in_default-read : goal.returns-in_default-read
 returns-in_default-read c =
-    let f = c.in-At.ensures in
+    let f = c.in-Some.ensures in
     let two = c.if-count-lt-IDENTIFIER_LENGTH.false in
-    no_number (named c.args.kept c.in-At.i f c.if-mark.false c.if-c-ge-TOP_BIT.false c.if-c-bcc.false two) c.if-end-gt-MOST_KEPT.false
-    (read_as c.args.kept c.in-At.i f c.args.xu c.args.count two (search rules) c.decimals.ensures c.read-read.ensures)
+    no_number (named c.args.kept c.in-Some.i f c.if-mark.false c.if-c-ge-TOP_BIT.false c.if-c-bcc.false two) c.if-end-gt-MOST_KEPT.false
+    (read_as c.args.kept c.in-Some.i f c.args.xu c.args.count two (search rules) c.decimals.ensures c.read-read.ensures)
     c.number.ensures
     (λ z. refusal-met c.read-read.result c.in_default-read.not-Value (sym c.number.ensures ∙ z))
 
@@ -91,26 +91,26 @@ returns-in_default-read c =
 
 pub returns-then-not-writable : goal.returns-then-not-writable
 returns-then-not-writable c =
-    let f = c.in-At.ensures in
+    let f = c.in-Some.ensures in
     let two = c.if-count-lt-IDENTIFIER_LENGTH.false in
-    read-only (named c.args.kept c.in-At.i f c.if-mark.false c.if-c-ge-TOP_BIT.false c.if-c-bcc.false two)
-    (record { whole = c.if-end-gt-MOST_KEPT.false; read = read_as c.args.kept c.in-At.i f c.args.xu c.args.count two (search rules) c.decimals.ensures c.in-Value.ensures })
-    (kind c.args.kept c.in-At.i f c.if-not-writable.ensures)
+    read-only (named c.args.kept c.in-Some.i f c.if-mark.false c.if-c-ge-TOP_BIT.false c.if-c-bcc.false two)
+    (record { whole = c.if-end-gt-MOST_KEPT.false; read = read_as c.args.kept c.in-Some.i f c.args.xu c.args.count two (search rules) c.decimals.ensures c.in-Value.ensures })
+    (kind c.args.kept c.in-Some.i f c.if-not-writable.ensures)
 
 pub returns-then-not-in_range : goal.returns-then-not-in_range
 returns-then-not-in_range c =
-    let f = c.in-At.ensures in
+    let f = c.in-Some.ensures in
     let two = c.if-count-lt-IDENTIFIER_LENGTH.false in
     let value : to_z w32 (of_z w32 c.in-Value.v) ≡ c.in-Value.v = search rules in
-    outside_range (named c.args.kept c.in-At.i f c.if-mark.false c.if-c-ge-TOP_BIT.false c.if-c-bcc.false two)
-    (record { whole = c.if-end-gt-MOST_KEPT.false; read = read_as c.args.kept c.in-At.i f c.args.xu c.args.count two (search rules) c.decimals.ensures c.in-Value.ensures })
-    (kind c.args.kept c.in-At.i f c.if-not-writable.ensures) (ranged c.args.kept c.in-At.i f value c.if-not-in_range.ensures)
+    outside_range (named c.args.kept c.in-Some.i f c.if-mark.false c.if-c-ge-TOP_BIT.false c.if-c-bcc.false two)
+    (record { whole = c.if-end-gt-MOST_KEPT.false; read = read_as c.args.kept c.in-Some.i f c.args.xu c.args.count two (search rules) c.decimals.ensures c.in-Value.ensures })
+    (kind c.args.kept c.in-Some.i f c.if-not-writable.ensures) (ranged c.args.kept c.in-Some.i f value c.if-not-in_range.ensures)
 
 pub returns : goal.returns
 returns c =
-    let f = c.in-At.ensures in
+    let f = c.in-Some.ensures in
     let two = c.if-count-lt-IDENTIFIER_LENGTH.false in
     let value : to_z w32 (of_z w32 c.in-Value.v) ≡ c.in-Value.v = search rules in
-    stored (named c.args.kept c.in-At.i f c.if-mark.false c.if-c-ge-TOP_BIT.false c.if-c-bcc.false two)
-    (record { whole = c.if-end-gt-MOST_KEPT.false; read = read_as c.args.kept c.in-At.i f c.args.xu c.args.count two (search rules) c.decimals.ensures c.in-Value.ensures })
-    (kind c.args.kept c.in-At.i f c.if-not-writable.ensures) (ranged c.args.kept c.in-At.i f value c.if-not-in_range.ensures) (sym (item c.args.kept c.in-At.i f)) value
+    stored (named c.args.kept c.in-Some.i f c.if-mark.false c.if-c-ge-TOP_BIT.false c.if-c-bcc.false two)
+    (record { whole = c.if-end-gt-MOST_KEPT.false; read = read_as c.args.kept c.in-Some.i f c.args.xu c.args.count two (search rules) c.decimals.ensures c.in-Value.ensures })
+    (kind c.args.kept c.in-Some.i f c.if-not-writable.ensures) (ranged c.args.kept c.in-Some.i f value c.if-not-in_range.ensures) (sym (item c.args.kept c.in-Some.i f)) value

@@ -1,11 +1,11 @@
 -- `items::find`: a turn of the search's loop decides by the line at i, or leaves it to the lines after it.
+use Rattle.std.specs.Prelude.{Some}
 use Rattle.std.proofs.Common.{◌≡◌, ℕ, ◌+◌, ◌<◌, Bool, false, get_or, drop, arith, refl, sym, ap, ◌∙◌}
 use mathlib.Core.Bool.{cond}
 use mathlib.Core.List.{map}
 use native.Mathlib.Nat.{le_of_lt}
 use borrow.Author.Tests.{eq-eqb, ne_eqb}
 use lib.Dec.{eqb}
-use Rattle.items.specs.declared.Found.TheVariants.{At}
 use Rattle.items.specs.ItemList.{Item, items, item_list, item_at, lines, named, first_from, found}
 use Rattle.items.proofs.Lists.{column-at, search-turn}
 use Rattle.items.proofs.find.Goals as goal
@@ -27,9 +27,9 @@ module _ (a b i : ℕ) (h : i < items) where
 
   -- the line at i decides, or the lines after it do
   turn : {t : Bool} → first_from i (named a b) (drop i item_list) ≡ found a b → named a b (item_at i) ≡ t
-      → cond t (At i) (first_from (i + 1) (named a b) (drop (i + 1) item_list)) ≡ found a b
+      → cond t (Some i) (first_from (i + 1) (named a b) (drop (i + 1) item_list)) ≡ found a b
   turn left e =
-      ap (λ (t : Bool). cond t (At i) (first_from (i + 1) (named a b) (drop (i + 1) item_list))) (sym e)
+      ap (λ (t : Bool). cond t (Some i) (first_from (i + 1) (named a b) (drop (i + 1) item_list))) (sym e)
       ∙ sym (search-turn (named a b) item_list i h) ∙ left
 
 pub returns-then-seconds-i : goal.returns-then-seconds-i

@@ -1,7 +1,7 @@
 -- The writes are looked at from the back, and what the first for the item gives is given by all.
+use Rattle.std.specs.Prelude.{Some, None}
 use Rattle.std.proofs.Common.{◌≡◌, sym, ap, ◌∙◌, arith, length, ◌/◌, ◌-◌, ◌+◌}
 use Rattle.sign.proofs.Laws.{same}
-use Rattle.writes.specs.declared.Given.TheVariants.{Value, Nothing}
 use Rattle.writes.proofs.Data.{GivenFrom, gives_none, gives-this, gives-on, value_stays}
 use Rattle.writes.proofs.given_to.Goals as goal
 
@@ -15,8 +15,8 @@ pub returns-then-item_behind-item : goal.returns-then-item_behind-item
 returns-then-item_behind-item c =
     let value = c.value_behind in
     let one : c.loop-left.left - 1 + 1 ≡ c.loop-left.left = omega arith in
-    let behind : GivenFrom c.args.start c.args.bytes.now c.args.item (c.loop-left.left - 1 + 1) Nothing = rw one c.loop-left.invariant.given in
-    ap Value (same value.result value.type_inv ∙ value.ensures)
+    let behind : GivenFrom c.args.start c.args.bytes.now c.args.item (c.loop-left.left - 1 + 1) None = rw one c.loop-left.invariant.given in
+    ap Some (same value.result value.type_inv ∙ value.ensures)
     ∙ sym (value_stays c.args.start c.args.bytes.now c.args.item (c.loop-left.left - 1) (omega arith)
     (gives-this c.args.start c.args.bytes.now c.args.item (c.loop-left.left - 1) behind (omega arith)
     (sym c.item_behind.ensures ∙ c.if-item_behind-item.true)))
@@ -24,7 +24,7 @@ returns-then-item_behind-item c =
 pub loop-left-preserved : goal.loop-left-preserved
 loop-left-preserved c =
     let one : c.loop-left.left - 1 + 1 ≡ c.loop-left.left = omega arith in
-    let behind : GivenFrom c.args.start c.args.bytes.now c.args.item (c.loop-left.left - 1 + 1) Nothing = rw one c.loop-left.invariant.given in
+    let behind : GivenFrom c.args.start c.args.bytes.now c.args.item (c.loop-left.left - 1 + 1) None = rw one c.loop-left.invariant.given in
     record {
       within = omega arith;
       given = gives-on c.args.start c.args.bytes.now c.args.item (c.loop-left.left - 1) behind (omega arith)
