@@ -8,14 +8,14 @@ use lib.Dec.{eqb, ltb}
 use Rattle.numbers.proofs.Tests.{chosen}
 use Rattle.line.specs.Line.{STX, ETX, EOT, ENQ, ACK, NAK, printable, is_line_error}
 use Rattle.phases.specs.Phases.{first_digit, second_digit, addressed, one_character, two_characters, waiting, text, bcc_due, answered}
-use Rattle.phases.specs.Phases.{not_belonging, not_awaited, list_ended}
+use Rattle.numbers.specs.declared.Refusal.TheVariants.{NotBelonging, NotAwaited, ListEnded}
 use Rattle.phases.specs.Decision.{is_the_digit, astray, decided}
 use Rattle.phases.specs.declared.Act.{Act}
 use Rattle.phases.specs.declared.Act.TheVariants.{Go, First, Both, More, Ended, Quit, Poll, Send, Judge}
 
 module _ (P : Act → Type 0) (go : (phase : ℕ) → P (Go phase)) (first : (a : ℕ) → P (First a)) (both : (a b : ℕ) → P (Both a b))
     (poll : (a b : ℕ) → P (Poll a b)) (send : (item : ℕ) → P (Send item))
-    (strayed : P (Quit not_belonging)) (unawaited : P (Quit not_awaited)) (end : P (Quit list_ended)) where
+    (strayed : P (Quit NotBelonging)) (unawaited : P (Quit NotAwaited)) (end : P (Quit ListEnded)) where
   astray-act : (c : ℕ) → P (astray c)
   astray-act c = chosen P (is_line_error c) (λ _. go _) (λ _. strayed)
 
