@@ -1,6 +1,5 @@
 -- Which verdict the numbers of a block come to: a law for each way out of `judge`.
 -- Assumes nothing.
-use Rattle.std.specs.Prelude.{Some, None}
 use mathlib.Core.Path.{◌≡◌, sym, ap, ◌∙◌}
 use mathlib.Core.Bool.{Bool, true, false, ◌||◌}
 use mathlib.Core.List.{List}
@@ -10,16 +9,19 @@ use borrow.Author.Tests.{lt-ltb, le-leb, lt-leb, eq-eqb, ne_eqb}
 use lib.IntN.{ℤ}
 use lib.ListN.{length, get_or, take, drop}
 use lib.Seq.{length-take-le, take-add, drop_at}
+use Rattle.std.specs.Prelude.{Some, None, Ok, Err}
+use Rattle.numbers.specs.declared.Refusal.{Refusal}
+use Rattle.numbers.specs.declared.Refusal.TheVariants.{LineError, WrongBcc, UnderTwo, UnknownIdentifier, OverSixCharacters, ReadOnly, OutOfRange}
 use Rattle.numbers.specs.Numbers.{none, first_met}
+use Rattle.numbers.specs.Refusals.{number_of}
+use Rattle.numbers.proofs.Refusals.{refusal-met}
 use Rattle.line.specs.Line.{is_line_error}
 use Rattle.items.specs.ItemList.{items, item_at, found, in_range}
 use Rattle.items.proofs.Lookup.{found-place}
-use Rattle.text.specs.Numbers.{width, over_six_characters, number_of}
+use Rattle.text.specs.Numbers.{width}
 use Rattle.text.specs.Reading.{ReadAs}
-use Rattle.text.specs.declared.Reading.{Reading}
-use Rattle.text.specs.declared.Reading.TheVariants.{Value}
-use Rattle.block.specs.Block.{line_error, wrong_bcc, under_two, unknown_identifier, read_only, out_of_range, identifier_length, most_kept, block_item, block_decimals, data_characters, block_value, block_numbers, block_number, Judges}
-use Rattle.block.specs.declared.Verdict.TheVariants.{Store, Refuse}
+use Rattle.block.specs.Block.{identifier_length, most_kept, block_item, block_decimals, data_characters, block_value, block_numbers, block_number, Judges}
+use Rattle.block.specs.declared.Setting.{Setting}
 
 -- the data characters are what is kept past the identifier, as many as the count has more
 pub data-part : (count : ℕ) (kept : List ℕ) → identifier_length ≤ count → identifier_length ≤ length kept
@@ -50,7 +52,7 @@ pub record Named (mark : Bool) (bcc count : ℕ) (kept : List ℕ) (c : ℕ) : T
 -- nor are 15 and 16: it has a value for the item
 pub record Valued (xu count : ℕ) (kept : List ℕ) (v : ℤ) : Type 0 where
   pub whole : count ≤ most_kept
-  pub read : ReadAs width (block_decimals xu kept) (data_characters count kept) (Value v)
+  pub read : ReadAs width (block_decimals xu kept) (data_characters count kept) (Ok v)
 
 -- the numbers from the data characters on decide
 reached : (xu : ℕ) {mark : Bool} {bcc count : ℕ} {kept : List ℕ} {c : ℕ} → Named mark bcc count kept c
@@ -60,39 +62,39 @@ reached xu {mark} {bcc} {count} {kept} {c} n =
     rw (n.heard, eq-eqb c bcc n.same, le-leb identifier_length count n.two, lt-ltb (block_item kept) items n.item)
 
 module _ {xu : ℕ} {mark : Bool} {bcc count : ℕ} {kept : List ℕ} {c : ℕ} where
-  refused : (n : ℕ) → (n ≡ none → ⊥) → block_number xu mark bcc count kept c ≡ n → Judges xu mark bcc count kept c (Refuse n)
-  refused n h e = let met = ne_eqb n none h in record { number = sym e; item = rw (e, met); value = rw (e, met) }
+  refused : (r : Refusal) → block_number xu mark bcc count kept c ≡ number_of r → Judges xu mark bcc count kept c (Err r)
+  refused r e = let met = ne_eqb (number_of r) none (refusal-met r) in record { number = sym e; item = rw (e, met); value = rw (e, met) }
 
   -- ---- before the item is known
 
-  pub line-error : (mark || is_line_error c) ≡ true → Judges xu mark bcc count kept c (Refuse line_error)
+  pub line-error : (mark || is_line_error c) ≡ true → Judges xu mark bcc count kept c (Err LineError)
   unfolding block_number
-  line-error h = refused line_error (λ z. omega arith) (rw h)
+  line-error h = refused LineError (rw h)
 
   module _ (heard : (mark || is_line_error c) ≡ false) where
-    pub wrong-bcc : (c ≡ bcc → ⊥) → Judges xu mark bcc count kept c (Refuse wrong_bcc)
+    pub wrong-bcc : (c ≡ bcc → ⊥) → Judges xu mark bcc count kept c (Err WrongBcc)
     unfolding block_number
-    wrong-bcc h = refused wrong_bcc (λ z. omega arith) (rw (heard, ne_eqb c bcc h))
+    wrong-bcc h = refused WrongBcc (rw (heard, ne_eqb c bcc h))
 
-    pub under-two : c ≡ bcc → count < identifier_length → Judges xu mark bcc count kept c (Refuse under_two)
+    pub under-two : c ≡ bcc → count < identifier_length → Judges xu mark bcc count kept c (Err UnderTwo)
     unfolding block_number
-    under-two e h = refused under_two (λ z. omega arith) (rw (heard, eq-eqb c bcc e, lt-leb identifier_length count h))
+    under-two e h = refused UnderTwo (rw (heard, eq-eqb c bcc e, lt-leb identifier_length count h))
 
     pub unknown : c ≡ bcc → identifier_length ≤ count → found (get_or kept 0 0) (get_or kept 1 0) ≡ None
-        → Judges xu mark bcc count kept c (Refuse unknown_identifier)
+        → Judges xu mark bcc count kept c (Err UnknownIdentifier)
     unfolding block_number block_item
-    unknown e h n = refused unknown_identifier (λ z. omega arith) (rw (heard, eq-eqb c bcc e, le-leb identifier_length count h, n))
+    unknown e h n = refused UnknownIdentifier (rw (heard, eq-eqb c bcc e, le-leb identifier_length count h, n))
 
   -- ---- for its item
 
   module _ (n : Named mark bcc count kept c) where
-    pub too_long : most_kept < count → Judges xu mark bcc count kept c (Refuse over_six_characters)
-    too_long h = refused over_six_characters (λ z. omega arith) (reached xu n ∙ rw (lt-leb count most_kept h))
+    pub too_long : most_kept < count → Judges xu mark bcc count kept c (Err OverSixCharacters)
+    too_long h = refused OverSixCharacters (reached xu n ∙ rw (lt-leb count most_kept h))
 
-    pub no_number : count ≤ most_kept → {r : Reading} → ReadAs width (block_decimals xu kept) (data_characters count kept) r
-        → {k : ℕ} → k ≡ number_of r → (k ≡ none → ⊥) → Judges xu mark bcc count kept c (Refuse k)
-    no_number whole read {k} e h =
-        refused k h (reached xu n ∙ rw (le-leb count most_kept whole, ← read.number, ← e, ne_eqb k none h))
+    pub no_value : count ≤ most_kept → {r : Refusal} → ReadAs width (block_decimals xu kept) (data_characters count kept) (Err r)
+        → Judges xu mark bcc count kept c (Err r)
+    no_value whole {r} read =
+        refused r (reached xu n ∙ rw (le-leb count most_kept whole, ← read.number, ne_eqb (number_of r) none (refusal-met r)))
 
     -- ---- with its value
 
@@ -105,15 +107,15 @@ module _ {xu : ℕ} {mark : Bool} {bcc count : ℕ} {kept : List ℕ} {c : ℕ} 
       valued : block_number xu mark bcc count kept c ≡ first_met (drop 6 (block_numbers xu mark bcc count kept c))
       valued = reached xu n ∙ rw (le-leb count most_kept e.whole, ← e.read.number)
 
-      pub read-only : (item_at (block_item kept)).writable ≡ false → Judges xu mark bcc count kept c (Refuse read_only)
-      read-only w = refused read_only (λ z. omega arith) (valued ∙ rw w)
+      pub read-only : (item_at (block_item kept)).writable ≡ false → Judges xu mark bcc count kept c (Err ReadOnly)
+      read-only w = refused ReadOnly (valued ∙ rw w)
 
       module _ (w : (item_at (block_item kept)).writable ≡ true) where
-        pub outside_range : in_range (block_item kept) v ≡ false → Judges xu mark bcc count kept c (Refuse out_of_range)
-        outside_range k = refused out_of_range (λ z. omega arith) (valued ∙ rw (w, ← same-value, k))
+        pub outside_range : in_range (block_item kept) v ≡ false → Judges xu mark bcc count kept c (Err OutOfRange)
+        outside_range k = refused OutOfRange (valued ∙ rw (w, ← same-value, k))
 
-        pub stored : in_range (block_item kept) v ≡ true → {i : ℕ} {u : ℤ} → i ≡ block_item kept → u ≡ v
-            → Judges xu mark bcc count kept c (Store i u)
+        pub stored : in_range (block_item kept) v ≡ true → {s : Setting} → s.place ≡ block_item kept → s.value ≡ v
+            → Judges xu mark bcc count kept c (Ok s)
         stored k p q =
             let z : block_number xu mark bcc count kept c ≡ none = valued ∙ rw (w, ← same-value, k) in
             record { number = sym z; item = p ∙ rw z; value = q ∙ same-value ∙ rw z }

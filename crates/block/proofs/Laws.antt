@@ -1,7 +1,7 @@
 -- What a caller may rely on. Where a block meets no number its value may be stored in its item, and else its number is one of 11
 -- to 18. A verdict tells which of the two it is.
 -- Assumes nothing.
-use mathlib.Core.Path.{◌≡◌, refl, sym, ap, ap₂, ◌∙◌}
+use mathlib.Core.Path.{◌≡◌, refl, sym, ap, ap₂}
 use mathlib.Core.Bool.{Bool, true, false, not, ◌&&◌, ◌||◌}
 use mathlib.Core.List.{List, [], ◌∷◌}
 use Prim.Native.Nat.{ℕ, ◌<◌, ◌≤◌}
@@ -9,7 +9,11 @@ use native.Mathlib.Omega.{arith}
 use borrow.Author.Tests.{eqb-false, leb-true, ltb-true, ltb-false}
 use lib.Dec.{leb, ltb, eqb}
 use lib.IntN.{ℤ}
+use Rattle.std.specs.Prelude.{Ok, Err}
+use Rattle.numbers.specs.declared.Refusal.{Refusal}
 use Rattle.numbers.specs.Numbers.{none, unless, first_met}
+use Rattle.numbers.specs.Refusals.{number_of}
+use Rattle.numbers.proofs.Refusals.{refusal-met, same-refusal}
 use Rattle.numbers.proofs.Tests.{both, chosen}
 use Rattle.numbers.proofs.Order.{each, none-at, test-held}
 use Rattle.numbers.proofs.Single.{single}
@@ -18,9 +22,8 @@ use Rattle.items.specs.ItemList.{items, item_at, by_xu, decimals_of, in_range}
 use Rattle.items.proofs.Lists.{passes_at, line-past}
 use Rattle.text.specs.Numbers.{width, most_decimals, over_six_characters, no_number}
 use Rattle.text.proofs.Readings.{few-numbers}
-use Rattle.block.specs.Block.{line_error, wrong_bcc, under_two, unknown_identifier, read_only, out_of_range, identifier_length, most_kept, block_item, block_decimals, data_characters, block_value, block_numbers, block_number, Judges}
-use Rattle.block.specs.declared.Verdict.{Verdict}
-use Rattle.block.specs.declared.Verdict.TheVariants.{Store, Refuse}
+use Rattle.block.specs.Block.{line_error, wrong_bcc, under_two, unknown_identifier, read_only, out_of_range, identifier_length, most_kept, block_item, block_decimals, data_characters, block_value, block_numbers, block_number, Verdict, Judges}
+use Rattle.block.specs.declared.Setting.{Setting}
 
 -- the item at this place may take this value
 pub record Storable (i : ℕ) (v : ℤ) : Type 0 where
@@ -107,24 +110,19 @@ module _ (xu : ℕ) (mark : Bool) (bcc count : ℕ) (kept : List ℕ) (c : ℕ) 
   -- ---- what a verdict tells of it
 
   -- a value to store: no number is met, and item and value are the block's
-  pub stores : (i : ℕ) (v : ℤ) → Judges xu mark bcc count kept c (Store i v)
-      → (block_number xu mark bcc count kept c ≡ none) × (i ≡ block_item kept) × (v ≡ block_value xu count kept)
-  stores i v j = let z = sym j.number in (z, rw z at j.item, rw z at j.value)
+  pub stores : (s : Setting) → Judges xu mark bcc count kept c (Ok s)
+      → (block_number xu mark bcc count kept c ≡ none) × (s.place ≡ block_item kept) × (s.value ≡ block_value xu count kept)
+  stores s j = let z = sym j.number in (z, rw z at j.item, rw z at j.value)
 
   -- a refusal: the block's number, which is met
-  pub refuses : (n : ℕ) → Judges xu mark bcc count kept c (Refuse n) → (block_number xu mark bcc count kept c ≡ n) × (n ≡ none → ⊥)
-  refuses n j = (sym j.number, met)
-    where
-      met : n ≡ none → ⊥
-      met e =
-          let z : block_number xu mark bcc count kept c ≡ none = sym j.number ∙ e in
-          let past = rw z at j.item in
-          let s = (block-stores z).listed in
-          omega arith
+  pub refuses : (r : Refusal) → Judges xu mark bcc count kept c (Err r)
+      → (block_number xu mark bcc count kept c ≡ number_of r) × (number_of r ≡ none → ⊥)
+  refuses r j = (sym j.number, refusal-met r)
 
   -- so two verdicts on one block are the same
   pub one-verdict : (r s : Verdict) → Judges xu mark bcc count kept c r → Judges xu mark bcc count kept c s → r ≡ s
-  one-verdict (Store i v) (Store k w) p q = ap₂ Store (single p.item q.item) (single p.value q.value)
-  one-verdict (Refuse n) (Refuse m) p q = ap Refuse (single p.number q.number)
-  one-verdict (Store i v) (Refuse m) p q = absurd ((refuses m q).1 (single q.number p.number))
-  one-verdict (Refuse n) (Store k w) p q = absurd ((refuses n p).1 (single p.number q.number))
+  one-verdict (Ok s) (Ok t) p q =
+      ap₂ (λ (i : ℕ) (v : ℤ). Ok (record { place = i; value = v })) (single p.item q.item) (single p.value q.value)
+  one-verdict (Err r) (Err s) p q = ap Err (same-refusal (single p.number q.number))
+  one-verdict (Ok s) (Err r) p q = absurd (refusal-met r (single q.number p.number))
+  one-verdict (Err r) (Ok s) p q = absurd (refusal-met r (single p.number q.number))

@@ -13,6 +13,7 @@ use lib.IntN.{pos, nat_abs}
 use lib.ListN.{length, get_or, take, drop, length-take, length-drop, take-append-drop, drop_of_length-le}
 use lib.Seq.{take-length, take-append_seam, drop-append-add}
 use lib.Signed.{lt_z}
+use Rattle.std.specs.Prelude.{Ok}
 use Rattle.sign.specs.Sign.{signed}
 use Rattle.sign.proofs.Laws.{by_sign}
 use Rattle.numbers.proofs.Tests.{both}
@@ -21,7 +22,6 @@ use Rattle.text.specs.Numbers.{least_width, most_decimals}
 use Rattle.text.specs.Reading.{all_digits, number_from, point_at, of_parts, of_unsigned, of_text, read_number, read_value}
 use Rattle.text.specs.Writing.{digits, pointed, room, text_of, text, fits}
 use Rattle.text.specs.Demands.{Demand2}
-use Rattle.text.specs.declared.Reading.TheVariants.{Value}
 use Rattle.text.proofs.Numerals.{digit-range, digits-all, digits-length, number_digits, parts-digits}
 use Rattle.text.proofs.Steps.{without-minus}
 use Rattle.text.proofs.Texts.{enough-room, fitting, text-length}
@@ -60,15 +60,15 @@ front-digits j k size =
 module _ (minus : Bool) (k size : ℕ) (h : size < 10 ^ k) where
   -- as many digits after the point as decimals: the quotient is exact
   parts-say : (d : ℕ) (xs ys : List ℕ) → xs ++ ys ≡ digits k size → 1 ≤ k → length ys ≡ d
-      → of_parts minus d xs ys ≡ Value (signed minus size)
+      → of_parts minus d xs ys ≡ Ok (signed minus size)
   parts-say d xs ys e some len =
       let l = ap length e ∙ digits-length k size in
       let number = ap (number_from 0) e ∙ number_digits k size ∙ mod-eq_of_lt h in
       let exact = mul-div_cancel (number_from 0 (xs ++ ys)) (one-le-pow d 10 (omega arith)) ∙ number in
       rw (ap all_digits e ∙ digits-all k size, le-leb 1 (length (xs ++ ys)) (omega arith), len)
-      (ap (λ (n : ℕ). Value (signed minus n)) exact)
+      (ap (λ (n : ℕ). Ok (signed minus n)) exact)
 
-  pointed-says : (d : ℕ) → d < k → of_unsigned minus d (pointed d (digits k size)) ≡ Value (signed minus size)
+  pointed-says : (d : ℕ) → d < k → of_unsigned minus d (pointed d (digits k size)) ≡ Ok (signed minus size)
   pointed-says zero few =
       let ds = digits k size in
       without-point minus 0 ds (digits-all k size) ∙ parts-say 0 ds [] (append-nil ds) (omega arith) refl
@@ -102,7 +102,7 @@ no_minus (suc d) k size h e =
 -- ---- the whole text
 
 module _ (width d size : ℕ) (wide : least_width ≤ width) (few : d ≤ most_decimals) where
-  text_says : (minus : Bool) → size < 10 ^ room width d minus → of_text d (text_of width d minus size) ≡ Value (signed minus size)
+  text_says : (minus : Bool) → size < 10 ^ room width d minus → of_text d (text_of width d minus size) ≡ Ok (signed minus size)
   text_says true h = pointed-says true (room width d true) size h d (enough-room width d true wide few).0
   text_says false h =
       let k = room width d false in
@@ -121,5 +121,5 @@ demand-2 width d v wide few f =
     let e = le-leb d most_decimals few in
     let s = le-leb (length chars) width (omega arith) in
     let room = ltb-true (nat_abs v) (10 ^ room width d minus) f in
-    let r = text_says width d (nat_abs v) wide few minus room ∙ ap Value (sym (by_sign v)) in
+    let r = text_says width d (nat_abs v) wide few minus room ∙ ap Ok (sym (by_sign v)) in
     record { is_written = rw w; is_read = rw (w, e, s, r); same = rw (w, e, s, r) }

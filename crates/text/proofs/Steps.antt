@@ -12,13 +12,13 @@ use lib.ListN.{length, get_or, drop, length-append, drop_of_length-le}
 use lib.Pow.{pow-add}
 use lib.Seq.{drop-cons}
 use mir.Val.{bool_byte}
+use Rattle.std.specs.Prelude.{Some, None, Ok, Err}
+use Rattle.numbers.specs.declared.Refusal.TheVariants.{NoNumber}
 use Rattle.sign.specs.Sign.{signed}
 use Rattle.numbers.proofs.Tests.{contrary, chosen}
 use Rattle.text.specs.Characters.{minus_sign, point, zero_digit, is_digit}
 use Rattle.text.specs.Numbers.{most_decimals}
 use Rattle.text.specs.Reading.{all_digits, number_from, digits_from, point_at, of_parts, of_unsigned, of_text}
-use Rattle.text.specs.declared.Digits.TheVariants.{Number, Other}
-use Rattle.text.specs.declared.Reading.TheVariants.{Value, NoNumber}
 use Rattle.text.proofs.Numerals.{all_append, number_append, number-below}
 
 -- ---- one character
@@ -34,29 +34,29 @@ module _ (cs : List ℕ) (i : ℕ) (h : i < length cs) where
       → digits_from n (drop i cs) ≡ digits_from (n * 10 + (get_or cs i 0 - zero_digit)) (drop (suc i) cs)
   digit-here n e = rw (drop-cons cs i 0 h, e)
 
-  pub other-here : (n : ℕ) → is_digit (get_or cs i 0) ≡ false → digits_from n (drop i cs) ≡ Other
+  pub other-here : (n : ℕ) → is_digit (get_or cs i 0) ≡ false → digits_from n (drop i cs) ≡ None
   other-here n e = rw (drop-cons cs i 0 h, e)
 
 -- ---- what `digits_from` found
 
-number_of : (b : Bool) (x m : ℕ) → cond b (Number x) Other ≡ Number m → (b ≡ true) × (m ≡ x)
+number_of : (b : Bool) (x m : ℕ) → cond b (Some x) None ≡ Some m → (b ≡ true) × (m ≡ x)
 number_of true x m e = (refl, cc)
 number_of false x m e = let z : ◌≡◌ {A = Bool} true false = cc in contrary z
 
-other-of : (b : Bool) (x : ℕ) → cond b (Number x) Other ≡ Other → b ≡ false
+other-of : (b : Bool) (x : ℕ) → cond b (Some x) None ≡ None → b ≡ false
 other-of true x e = cc
 other-of false x e = refl
 
-number-found : (n : ℕ) (cs : List ℕ) (m : ℕ) → digits_from n cs ≡ Number m → (all_digits cs ≡ true) × (m ≡ number_from n cs)
+number-found : (n : ℕ) (cs : List ℕ) (m : ℕ) → digits_from n cs ≡ Some m → (all_digits cs ≡ true) × (m ≡ number_from n cs)
 number-found n cs m e = number_of (all_digits cs) (number_from n cs) m e
 
 -- a number of k digits, and the digits after it
-pub found_below : (k n : ℕ) (cs : List ℕ) (m : ℕ) → n < 10 ^ k → digits_from n cs ≡ Number m → m < 10 ^ (k + length cs)
+pub found_below : (k n : ℕ) (cs : List ℕ) (m : ℕ) → n < 10 ^ k → digits_from n cs ≡ Some m → m < 10 ^ (k + length cs)
 found_below k n cs m h e = let p = number-found n cs m e in rw p.1 (number-below cs n k p.0 h)
 
 -- the digits before the point and those after it make one number
-pub number_small : (whole fraction : List ℕ) (front n : ℕ) → digits_from 0 whole ≡ Number front
-    → digits_from front fraction ≡ Number n → n < 10 ^ (length whole + length fraction)
+pub number_small : (whole fraction : List ℕ) (front n : ℕ) → digits_from 0 whole ≡ Some front
+    → digits_from front fraction ≡ Some n → n < 10 ^ (length whole + length fraction)
 number_small whole fraction front n w f =
     let small = rw (zero-add (length whole)) at (found_below 0 0 whole front (omega arith) w) in
     found_below (length whole) front fraction n small f
@@ -65,23 +65,23 @@ number_small whole fraction front n w f =
 
 module _ (minus : Bool) (d : ℕ) (whole fraction : List ℕ) where
   refused-by : (all_digits (whole ++ fraction) && leb 1 (length (whole ++ fraction))) ≡ false
-      → NoNumber ≡ of_parts minus d whole fraction
+      → Err NoNumber ≡ of_parts minus d whole fraction
   refused-by e = rw e
 
-  pub no_whole : digits_from 0 whole ≡ Other → NoNumber ≡ of_parts minus d whole fraction
+  pub no_whole : digits_from 0 whole ≡ None → Err NoNumber ≡ of_parts minus d whole fraction
   no_whole e = refused-by (rw (all_append whole fraction, other-of (all_digits whole) (number_from 0 whole) e))
 
-  pub no_fraction : (front : ℕ) → digits_from front fraction ≡ Other → NoNumber ≡ of_parts minus d whole fraction
+  pub no_fraction : (front : ℕ) → digits_from front fraction ≡ None → Err NoNumber ≡ of_parts minus d whole fraction
   no_fraction front e =
       let other = other-of (all_digits fraction) (number_from front fraction) e in
       refused-by (rw (all_append whole fraction, other, and-false (all_digits whole)))
 
-  pub no-digits : length whole + length fraction ≡ 0 → NoNumber ≡ of_parts minus d whole fraction
+  pub no-digits : length whole + length fraction ≡ 0 → Err NoNumber ≡ of_parts minus d whole fraction
   no-digits e = refused-by (rw (length-append whole fraction, e, and-false (all_digits (whole ++ fraction))))
 
-  pub digits-say : (front n : ℕ) → digits_from 0 whole ≡ Number front → digits_from front fraction ≡ Number n
+  pub digits-say : (front n : ℕ) → digits_from 0 whole ≡ Some front → digits_from front fraction ≡ Some n
       → (length whole + length fraction ≡ 0 → ⊥)
-      → Value (signed minus (n * 10 ^ d / 10 ^ length fraction)) ≡ of_parts minus d whole fraction
+      → Ok (signed minus (n * 10 ^ d / 10 ^ length fraction)) ≡ of_parts minus d whole fraction
   digits-say front n w f some =
       let p = number-found 0 whole front w in
       let q = number-found front fraction n f in

@@ -14,8 +14,7 @@ use lib.Signed.{lt_z}
 use Rattle.numbers.specs.Numbers.{unless, first_met, unless_met}
 use Rattle.text.specs.Characters.{minus_sign, point}
 use Rattle.text.specs.Numbers.{least_width, most_decimals, does_not_fit, too_many_decimals}
-use Rattle.text.specs.Writing.{digits, pointed, sign_text, points, room, fits, text_of, text, accepted, refusal, write_number, written}
-use Rattle.text.specs.Writing.{Written}
+use Rattle.text.specs.Writing.{digits, pointed, sign_text, points, room, fits, text_of, text, Written, accepted, refusal, write_number, written}
 use Rattle.text.proofs.Numerals.{digits-length, fewer_digits}
 
 -- ---- room
