@@ -3,6 +3,7 @@
 use mathlib.Core.Path.{refl}
 use Rattle.numbers.specs.Promise.{OneOutcome}
 use Rattle.numbers.proofs.Single.{single, ◌&◌}
+use Rattle.numbers.proofs.Refusals.{same-given}
 use Rattle.registers.proofs as registers
 use Rattle.registers.specs.contracts as contract
 
@@ -25,10 +26,10 @@ pub register-at : OneOutcome contract.register_at.ended registers.register_at.Re
 register-at = record { asks_nothing = λ κs a. tt; single = λ κs a o u p q. single p q & refl }
 
 pub read-fault : OneOutcome contract.read_fault.ended registers.read_fault.Reads.Asked registers.read_fault.Reads.Post
-read-fault = record { asks_nothing = λ κs a. tt; single = λ κs a o u p q. single p q & refl }
+read-fault = record { asks_nothing = λ κs a. tt; single = λ κs a o u p q. same-given (single p q) & refl }
 
 pub right-counts : OneOutcome contract.right_counts.ended registers.right_counts.Reads.Asked registers.right_counts.Reads.Post
 right-counts = record { asks_nothing = λ κs a. tt; single = λ κs a o u p q. single p q & refl }
 
 pub loopback-fault : OneOutcome contract.loopback_fault.ended registers.loopback_fault.Reads.Asked registers.loopback_fault.Reads.Post
-loopback-fault = record { asks_nothing = λ κs a. tt; single = λ κs a o u p q. single p q & refl }
+loopback-fault = record { asks_nothing = λ κs a. tt; single = λ κs a o u p q. same-given (single p q) & refl }

@@ -4,12 +4,12 @@ use Rattle.sign.proofs.Laws.{same}
 use Rattle.registers.specs.Register.{to_register, read_as, register_at}
 use Rattle.registers.proofs.register_at.Goals as goal
 
-pub returns-in-At : goal.returns-in-At
+pub returns-in-Some : goal.returns-in-Some
 unfolding register_at
-returns-in-At c =
+returns-in-Some c =
     c.to_register.ensures ∙ ap to_register (same c.answer.result c.answer.type_inv ∙ c.answer.ensures)
-    ∙ ap (read_as c.args.table.now) c.in-At.ensures
+    ∙ ap (read_as c.args.table.now) c.in-Some.ensures
 
-pub returns-in-Nothing : goal.returns-in-Nothing
+pub returns-in-None : goal.returns-in-None
 unfolding register_at
-returns-in-Nothing c = ap (read_as c.args.table.now) c.in-Nothing.ensures
+returns-in-None c = ap (read_as c.args.table.now) c.in-None.ensures
