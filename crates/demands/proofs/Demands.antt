@@ -52,7 +52,7 @@ module _ (l : Link) (t : List ℤ) (structure time : ℕ) where
   kept-or-judged (Both a b) P same block = same _
   kept-or-judged (More c) P same block = same _
   kept-or-judged Ended P same block = same _
-  kept-or-judged (Quit number) P same block = same _
+  kept-or-judged (Quit refusal) P same block = same _
   kept-or-judged (Poll a b) P same block = same _
   kept-or-judged (Send item) P same block = same _
   kept-or-judged (Judge c) P same block = block c

@@ -51,7 +51,7 @@ module _ (P : List ℕ → Type 0) (structure : ℕ) (nothing : P []) (one : (c 
   performed-reply l t time (Both a b) = nothing
   performed-reply l t time (More c) = nothing
   performed-reply l t time Ended = nothing
-  performed-reply l t time (Quit number) = one EOT
+  performed-reply l t time (Quit refusal) = one EOT
   performed-reply l t time (Poll a b) = polled-reply time t (found a b)
   performed-reply l t time (Send i) = item-reply time t (i - 1)
   performed-reply l t time (Judge c) = judged-reply t l c

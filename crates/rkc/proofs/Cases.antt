@@ -3,18 +3,21 @@
 use Rattle.std.proofs.Common.{◌≡◌, ℕ, ◌+◌, ◌<◌, ◌≤◌, Bool, true, false, leb, List, [], ◌∷◌, map, length, ℤ, sym, refl, ap, ◌∙◌, subst, arith, eq-eqb, ne_eqb, le-leb, leb-true}
 use mathlib.Core.Path.{subst⁻¹}
 use borrow.Author.Tests.{lt-leb}
+use Rattle.std.specs.Prelude.{Result, Ok, Err}
+use Rattle.numbers.specs.declared.Refusal.{Refusal}
 use Rattle.numbers.specs.Numbers.{none, unless, first_met, short_buffer, least_buffer, bad_setting}
-use Rattle.numbers.proofs.Order.{this-met, not-met, none-at, last-met, test-held}
+use Rattle.numbers.specs.Refusals.{number_of}
+use Rattle.numbers.proofs.Order.{not-met, none-at, last-met, test-held}
+use Rattle.numbers.proofs.Refusals.{refusal-met}
 use Rattle.table.specs.Table.{table_fault, xu_of, stored}
 use Rattle.line.specs.Line.{ACK, NAK, sent, heard}
 use Rattle.phases.specs.Phases as phases
 use Rattle.phases.specs.Phases.{waiting}
 use Rattle.phases.specs.declared.Act.{Act}
-use Rattle.text.specs.Writing.{Written}
-use Rattle.block.specs.Block.{Judges}
-use Rattle.block.specs.declared.Verdict.{Verdict}
-use Rattle.block.specs.declared.Verdict.TheVariants.{Store, Refuse}
-use Rattle.block.proofs.Laws.{stores, refuses}
+use Rattle.text.specs.Numbers.{width}
+use Rattle.text.specs.Writing.{written_as}
+use Rattle.block.specs.Block.{Judges, Verdict}
+use Rattle.block.specs.declared.Setting.{Setting}
 use Rattle.rkc.specs.declared.Link.{Link}
 use Rattle.rkc.specs.declared.Stepped.{Stepped}
 use Rattle.rkc.specs.State.{in_phase, waiting_on, as_block, used, in_limits}
@@ -37,30 +40,33 @@ done-by l t structure time e = ap (performed l t structure time) e
 
 -- ---- an item's number text fits, or not
 
-module _ (structure time : ℕ) (t : List ℤ) (i : ℕ) (w : Written) (e : w ≡ item_text t i) where
-  pub item-fits : w.number ≡ none
+module _ (structure time : ℕ) (t : List ℤ) (i : ℕ) where
+  pub item-fits : (six : List ℕ) → written_as width (Ok six) ≡ item_text t i
       → item_sent structure time t i
-      ≡ record { link = waiting_on (i + 1) time; number = none; reply = map (sent structure) (data_reply i w.chars) }
+      ≡ record { link = waiting_on (i + 1) time; number = none; reply = map (sent structure) (data_reply i six) }
   unfolding item_sent
-  item-fits z = rw (← e) (simp (eq-eqb _ _ z))
+  item-fits six e = rw (← e) refl
 
-  pub item-too-long : (w.number ≡ none → ⊥) → item_sent structure time t i ≡ quit structure no_room
+  pub item-too-long : (r : Refusal) → written_as width (Err r) ≡ item_text t i → item_sent structure time t i ≡ quit structure no_room
   unfolding item_sent
-  item-too-long n = rw (← e) (simp (ne_eqb _ _ n))
+  item-too-long r e = rw (← e) (simp (ne_eqb _ _ (refusal-met r)))
 
--- ---- a verdict on a block: a value to store, or a number
+-- ---- a verdict on a block: a setting, or a refusal
 
 module _ (structure : ℕ) (t : List ℤ) (l : Link) (c : ℕ) {v : Verdict} (j : Judges (xu_of t) l.mark l.bcc l.count l.kept c v) where
-  pub judged-stored : {i : ℕ} {w : ℤ} → v ≡ Store i w
-      → judged structure t l c ≡ record { step = sends structure ACK (in_phase phases.answered) none; table = stored t i w }
-  judged-stored {i} {w} e =
-      let s = stores (xu_of t) l.mark l.bcc l.count l.kept c i w (subst (Judges (xu_of t) l.mark l.bcc l.count l.kept c) e j) in
-      rw (s.1, s.2) (simp (eq-eqb _ _ s.0))
+  pub judged-stored : {s : Setting} → v ≡ Ok s
+      → judged structure t l c
+      ≡ record { step = sends structure ACK (in_phase phases.answered) none; table = stored t s.place s.value }
+  judged-stored {s} e =
+      let k : Judges (xu_of t) l.mark l.bcc l.count l.kept c (Ok s) = subst (Judges (xu_of t) l.mark l.bcc l.count l.kept c) e j in
+      let z = sym k.number in
+      rw (rw z at k.item, rw z at k.value) (simp (eq-eqb _ _ z))
 
-  pub judged-refused : {n : ℕ} → v ≡ Refuse n → judged structure t l c ≡ keeping t (sends structure NAK (in_phase phases.answered) n)
-  judged-refused {n} e =
-      let s = refuses (xu_of t) l.mark l.bcc l.count l.kept c n (subst (Judges (xu_of t) l.mark l.bcc l.count l.kept c) e j) in
-      rw s.0 (simp (ne_eqb n none s.1))
+  pub judged-refused : {r : Refusal} → v ≡ Err r
+      → judged structure t l c ≡ keeping t (sends structure NAK (in_phase phases.answered) (number_of r))
+  judged-refused {r} e =
+      let k : Judges (xu_of t) l.mark l.bcc l.count l.kept c (Err r) = subst (Judges (xu_of t) l.mark l.bcc l.count l.kept c) e j in
+      rw (← k.number) (simp (ne_eqb _ none (refusal-met r)))
 
 -- ---- the caller's faults
 
@@ -78,9 +84,6 @@ module _ (l : Link) (room : ℕ) (settings : Bool) where
   step-outside h s e = simp (le-leb least_buffer room h, s, e)
 
 module _ (t : List ℤ) (step : ℕ) {f : ℕ} (e : f ≡ table_fault t) where
-  pub table-first : (f ≡ none → ⊥) → first_met (table_fault t ∷ step ∷ []) ≡ f
-  table-first n = rw (← e) (this-met f (step ∷ []) n)
-
   pub step-next : f ≡ none → first_met (table_fault t ∷ step ∷ []) ≡ step
   step-next z = rw (← e) (not-met f (step ∷ []) z ∙ last-met step)
 

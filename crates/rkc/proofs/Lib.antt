@@ -1,4 +1,3 @@
-pub mod Lists
 pub mod Used
 pub mod Cases
 pub mod Limits

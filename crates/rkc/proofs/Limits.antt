@@ -136,7 +136,7 @@ performed-limits l t structure time (First a) s x = lt-ltb a top_bit x
 performed-limits l t structure time (Both a b) s x = simp (lt-ltb a top_bit x.0, lt-ltb b top_bit x.1)
 performed-limits l t structure time (More c) s x = more-limits l c s
 performed-limits l t structure time Ended s x = end-limits l s
-performed-limits l t structure time (Quit number) s x = refl
+performed-limits l t structure time (Quit refusal) s x = refl
 performed-limits l t structure time (Poll a b) s x = by (found a b) refl
   where
     by : (f : Option ℕ) → found a b ≡ f → in_limits (polled structure time t f).link ≡ true
