@@ -1,9 +1,9 @@
 // The CRC-16 of Modbus RTU: start FFFFH, A001H, low bit first, low byte sent first.
 #![tactic(auto)]
 
-ghost use Rattle.std.specs.Prelude.{◌≡◌, ℕ, ◌+◌, ◌*◌, ◌<◌, get_or, unwrap_or};
+ghost use Rattle.std.specs.Prelude.{◌≡◌, ℕ, ◌<◌, get_or, is_some, unwrap_or};
 ghost use Rattle.std.specs.Int.Bits.{bit_xor};
-ghost use Rattle.crc.specs.Crc.{shifts, crc16_of, is_right, Seals};
+ghost use Rattle.crc.specs.Crc.{shifts, crc16_of, is_right, has_room, Seals};
 
 const START: u16 = 0xFFFF;
 
@@ -36,42 +36,32 @@ pub fn crc16(bytes: &[u8]) -> u16
 {
     let shifted = SHIFTED;
     let mut crc = START;
-    let mut i = 0;
-    while i < bytes.len() {
-        crc = take_in(&shifted, crc, bytes[i]);
-        i += 1;
+    for byte in bytes {
+        crc = take_in(&shifted, crc, *byte);
     }
     crc
-}
-
-// The 16-bit number that two bytes stand for.
-fn word(low: u8, high: u8) -> u16
-    ensures { result ≡ low + 256 * high }
-{
-    (low as u16) + 256 * (high as u16)
 }
 
 // Whether a frame's last two bytes are the CRC of all before them; a frame of under two bytes is not right.
 pub fn is_right(frame: &[u8]) -> bool
     ensures { result ≡ is_right frame.now }
 {
-    if frame.len() < 2 {
+    let Some((body, last)) = frame.split_last_chunk::<2>() else {
         return false;
-    }
-    let n = frame.len() - 2;
-    crc16(&frame[..n]) == word(frame[n], frame[n + 1])
+    };
+    crc16(body) == u16::from_le_bytes(*last)
 }
 
 // Writes the CRC of a buffer's first n bytes behind them and hands back the length of that frame; where the buffer has no
 // room for it, nothing is written and there is no length. Nothing is added to n before the test, since n may be any number.
 pub fn seal(buffer: &mut [u8], n: usize) -> Option<usize>
-    ensures { Seals buffer.old n buffer.new (unwrap_or result 0) }
+    ensures frame { Seals buffer.old n buffer.new (unwrap_or result 0) }
+    ensures room { is_some result ≡ has_room buffer.old n }
 {
     if buffer.len() < 2 || buffer.len() - 2 < n {
         return None;
     }
     let crc = crc16(&buffer[..n]);
-    buffer[n] = (crc % 256) as u8;
-    buffer[n + 1] = (crc / 256) as u8;
+    buffer[n..n + 2].copy_from_slice(&crc.to_le_bytes());
     Some(n + 2)
 }

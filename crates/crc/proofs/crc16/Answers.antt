@@ -1,5 +1,5 @@
 -- One byte more is taken in: the bytes behind it are left, and with none left the register is the CRC.
-use Rattle.std.proofs.Common.{◌≡◌, ℕ, ◌+◌, ◌≤◌, ◌<◌, List, length, get_or, drop, refl, sym, ap, ap₂, ◌∙◌, add-one, drop-cons, arith}
+use Rattle.std.proofs.Common.{◌≡◌, ℕ, ◌+◌, ◌≤◌, ◌<◌, List, length, get_or, drop, refl, sym, ap, ap₂, ◌∙◌, add-one, drop-cons}
 use lib.ListN.{drop_of_length-le}
 use Rattle.std.specs.Int.Bits.{bit_xor}
 use Rattle.crc.specs.Crc.{shift, shifts, crc_from, crc16_of}
@@ -16,17 +16,17 @@ none_left : (bytes : List ℕ) (i crc result : ℕ) → length bytes ≤ i → c
 unfolding crc_from
 none_left bytes i crc result end inv = sym (ap (crc_from crc) (drop_of_length-le bytes end)) ∙ inv
 
-pub loop-i-init : goal.loop-i-init
+pub loop-byte-init : goal.loop-byte-init
 unfolding crc16_of
-loop-i-init c = (omega arith, refl)
+loop-byte-init c = refl
 
 -- the sixteen constants are what four shifts make of each half byte: one test, computed by the definition of a shift
 pub take_in-crc-requires : goal.take_in-crc-requires
 unfolding shifts shift
 take_in-crc-requires c = agree_at _ (shifts 4) 16 refl
 
-pub loop-i-preserved : goal.loop-i-preserved
-loop-i-preserved c = (omega arith, one_less _ _ _ _ _ c.loop-i-test.true c.loop-i.invariant.1 c.take_in-crc.ensures)
+pub loop-byte-preserved : goal.loop-byte-preserved
+loop-byte-preserved c = one_less _ _ _ _ _ c.loop-byte-test.true c.loop-byte.invariant c.take_in-crc.ensures
 
 pub returns : goal.returns
-returns c = none_left _ _ _ _ c.loop-i-test.false c.loop-i.invariant.1
+returns c = none_left _ _ _ _ c.loop-byte-test.false c.loop-byte.invariant

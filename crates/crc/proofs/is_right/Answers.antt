@@ -1,23 +1,30 @@
 -- The code compares the two numbers that the definition compares.
-use Rattle.std.proofs.Common.{◌≡◌, ℕ, ◌+◌, ◌-◌, ◌*◌, ◌≤◌, ◌<◌, false, nat_eq, List, length, get_or, ap, ap₂, ◌∙◌, arith}
+use Rattle.std.proofs.Common.{◌≡◌, ℕ, ◌+◌, ◌-◌, ◌*◌, nat_eq, List, length, get_or, drop, ap, ap₂, ◌∙◌, arith}
 use borrow.Author.Tests.{le-leb, lt-leb}
+use Rattle.std.proofs.lemmas.List.{get_or-drop}
 use Rattle.crc.specs.Crc.{crc16_of, body_of, is_right}
 use Rattle.crc.proofs.is_right.Goals as goal
 
-short : (frame : List ℕ) → length frame < 2 → false ≡ is_right frame
+pub returns-in_default : goal.returns-in_default
 unfolding is_right
-short frame h = rw (lt-leb 2 (length frame) h)
+returns-in_default c = rw (lt-leb 2 (length c.args.frame.now) c.in_default.ensures.cases)
 
-compared : (frame : List ℕ) (crc last : ℕ) → 2 ≤ length frame → crc ≡ crc16_of (body_of frame)
-    → last ≡ get_or frame (length frame - 2) 0 + 256 * get_or frame (length frame - 2 + 1) 0 → nat_eq crc last ≡ is_right frame
+compared : (frame body last : List ℕ) (crc brought : ℕ) → length body + 2 ≡ length frame → body ≡ body_of frame
+    → last ≡ drop (length frame - 2) frame → crc ≡ crc16_of body → brought ≡ get_or last 0 0 + get_or last 1 0 * 256
+    → nat_eq crc brought ≡ is_right frame
 unfolding is_right
-compared frame crc last h p q =
-    let e : length frame - 2 + 1 ≡ length frame - 1 = omega arith in
-    rw (le-leb 2 (length frame) h)
-    (ap₂ nat_eq p (q ∙ ap (λ (k : ℕ). get_or frame (length frame - 2) 0 + 256 * get_or frame k 0) e))
-
-pub returns-then-frame-lt2 : goal.returns-then-frame-lt2
-returns-then-frame-lt2 c = short _ c.if-frame-lt2.true
+compared frame body last crc brought h p q r s =
+    rw (le-leb 2 (length frame) (omega arith)) (ap₂ nat_eq (r ∙ ap crc16_of p) brings)
+  where
+    brings : brought ≡ get_or frame (length frame - 2) 0 + 256 * get_or frame (length frame - 1) 0
+    brings =
+        let low : get_or last 0 0 ≡ get_or frame (length frame - 2 + 0) 0 = ap (λ (l : List ℕ). get_or l 0 0) q ∙ get_or-drop _ frame 0 0 in
+        let high : get_or last 1 0 ≡ get_or frame (length frame - 2 + 1) 0 = ap (λ (l : List ℕ). get_or l 1 0) q ∙ get_or-drop _ frame 1 0 in
+        let first : length frame - 2 + 0 ≡ length frame - 2 = omega arith in
+        let second : length frame - 2 + 1 ≡ length frame - 1 = omega arith in
+        s ∙ rw (low, high, first, second) (omega arith)
 
 pub returns : goal.returns
-returns c = compared _ _ _ (omega arith) c.crc16.ensures c.word.ensures
+returns c =
+    let e = c.in-Some.ensures.cases in
+    compared _ _ _ _ _ e.2 e.0 e.1 c.crc16.ensures c.from_le_bytes.ensures
