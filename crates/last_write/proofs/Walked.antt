@@ -1,6 +1,6 @@
 -- The walk back as far as it has come, and the answer where it stops.
 -- Assumes nothing.
-use Rattle.std.specs.Prelude.{Option, None, ℤ}
+use Rattle.std.specs.Prelude.{Option, None, ℤ, Err}
 use mathlib.Core.Path.{◌≡◌, refl, sym, ap, ◌∙◌}
 use mathlib.Core.Bool.{true, false, cond, ◌&&◌, and-false}
 use mathlib.Core.List.{List}
@@ -11,7 +11,11 @@ use borrow.Author.Count.{below_more}
 use borrow.Author.Tests.{lt-leb}
 use lib.Dec.{eqb, leb}
 use lib.ListN.{length}
+use Rattle.numbers.specs.declared.Refusal.{Refusal}
+use Rattle.numbers.specs.declared.Refusal.TheVariants.{BadSetting, NoSuchItem, BadCapture}
 use Rattle.numbers.specs.Numbers.{none, unless, bad_setting}
+use Rattle.numbers.specs.Refusals.{number_of}
+use Rattle.numbers.proofs.Refusals.{refusal-met}
 use Rattle.numbers.proofs.Tests.{chosen}
 use Rattle.numbers.proofs.Order.{last-met, passed, is-refused, is-done, either_way}
 use Rattle.items.specs.ItemList.{listed}
@@ -23,7 +27,7 @@ use Rattle.capture.specs.Format.{trailer_begins, trailer_right, count}
 use Rattle.capture.proofs.Walk.{ends, begun}
 use Rattle.playback.specs.Written.{wrote}
 use Rattle.last_write.specs.LastWrite.{Question, place_after, written_before, stops_at, passed_over, stop, write_found, distance}
-use Rattle.last_write.specs.LastWrite.{undamaged, ask_number, last_written, records_read, Answers, refused_by, Askable}
+use Rattle.last_write.specs.LastWrite.{undamaged, ask_number, last_written, records_read, Answers, answer_as, Askable}
 use Rattle.last_write.proofs.First.{Earliest, first-within, first-is}
 
 -- ---- one record
@@ -80,11 +84,11 @@ pub found_at : (q : Question) (c : List ℕ) (n : ℕ) → n ≤ length c → Ea
 unfolding passed_over stop
 found_at q c n h e = let first = first-is (length c) _ n h e in (first, ap (place_after c (trailer_begins c)) first)
 
--- a number is met, and so nothing is told
-pub no_answer : (q : Question) (c : List ℕ) {number : ℕ} → ask_number q c ≡ number → (number ≡ none → ⊥) → Answers q c (refused_by number)
+-- a refusal is met, and so nothing is told
+pub no_answer : (q : Question) (c : List ℕ) (refusal : Refusal) → ask_number q c ≡ number_of refusal → Answers q c (answer_as (Err refusal))
 unfolding last_written records_read
-no_answer q c e h =
-    let met : ask_number q c ≡ none → ⊥ = λ z. h (sym e ∙ z) in
+no_answer q c refusal e =
+    let met : ask_number q c ≡ none → ⊥ = λ z. refusal-met refusal (sym e ∙ z) in
     record {
       given = sym e;
       written = sym (is-refused (ask_number q c) (λ number. None) (write_found q c) met);
@@ -93,18 +97,18 @@ no_answer q c e h =
 
 -- the address, the item, and where a walk can't begin
 module _ (q : Question) (c : List ℕ) where
-  pub no_address : is_address q.address ≡ false → Answers q c (refused_by bad_setting)
+  pub no_address : is_address q.address ≡ false → Answers q c (answer_as (Err BadSetting))
   unfolding ask_number
-  no_address a = no_answer q c (rw a) (λ z. omega arith)
+  no_address a = no_answer q c BadSetting (rw a)
 
   module _ (a : is_address q.address ≡ true) where
-    pub no_item : listed q.item ≡ false → Answers q c (refused_by no_such_item)
+    pub no_item : listed q.item ≡ false → Answers q c (answer_as (Err NoSuchItem))
     unfolding ask_number
-    no_item i = no_answer q c (rw (a, i)) (λ z. omega arith)
+    no_item i = no_answer q c NoSuchItem (rw (a, i))
 
-    pub no-trailer : listed q.item ≡ true → trailer_right c ≡ false → Answers q c (refused_by bad_capture)
+    pub no-trailer : listed q.item ≡ true → trailer_right c ≡ false → Answers q c (answer_as (Err BadCapture))
     unfolding ask_number
-    no-trailer i t = no_answer q c (rw (a, i, t)) (λ z. omega arith)
+    no-trailer i t = no_answer q c BadCapture (rw (a, i, t))
 
   -- what is known of a question that is answered
   pub askable : ask_number q c ≡ none → Askable q c
@@ -168,8 +172,8 @@ module _ (q : Question) (c : List ℕ) (a : Askable q c) where
       nothing : write_found q c ≡ None
       nothing = ap (written_before q c) at-end.1 ∙ no_record q c end r
 
-      pub meets-damage : (eqb end 0 && eqb n (count c)) ≡ false → Answers q c (refused_by bad_capture)
-      meets-damage other = no_answer q c (number_by ∙ rw (nothing, at-end.0, at-end.1, other)) (λ z. omega arith)
+      pub meets-damage : (eqb end 0 && eqb n (count c)) ≡ false → Answers q c (answer_as (Err BadCapture))
+      meets-damage other = no_answer q c BadCapture (number_by ∙ rw (nothing, at-end.0, at-end.1, other))
 
       pub all_read : (eqb end 0 && eqb n (count c)) ≡ true → Answers q c (record { number = none; written = None; records = n })
       all_read all = is-answer (rw (nothing, at-end.0, at-end.1, all)) nothing at-end.0

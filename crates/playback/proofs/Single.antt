@@ -2,7 +2,8 @@
 -- Assumes nothing.
 use mathlib.Core.Path.{refl}
 use Rattle.numbers.specs.Promise.{OneOutcome}
-use Rattle.numbers.proofs.Single.{single, lent-single, ◌&◌}
+use Rattle.numbers.proofs.Refusals.{lent-given}
+use Rattle.numbers.proofs.Single.{single, ◌&◌}
 use Rattle.playback.proofs as playback
 use Rattle.playback.specs.contracts as contract
 
@@ -10,4 +11,4 @@ pub wrote : OneOutcome contract.wrote.ended playback.wrote.Reads.Asked playback.
 wrote = record { asks_nothing = λ κs a. tt; single = λ κs a o u p q. single p q & refl }
 
 pub play : OneOutcome contract.play.ended playback.play.Reads.Asked playback.play.Reads.Post
-play = record { asks_nothing = λ κs a. tt; single = λ κs a o u p q. let e = lent-single p q in e.0 & e.1 & refl }
+play = record { asks_nothing = λ κs a. tt; single = λ κs a o u p q. let e = lent-given p q in e.0 & e.1 & refl }
