@@ -3,3 +3,4 @@ pub mod Tests
 pub mod Order
 pub mod Powers
 pub mod Single
+pub mod Outcomes
