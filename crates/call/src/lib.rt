@@ -14,10 +14,11 @@ const FIRST_ADDRESS: u8 = 1;
 pub fn is_address(address: u8) -> bool
     ensures { result ≡ is_address address }
 {
-    (FIRST_ADDRESS <= address) & (address <= LAST_ADDRESS)
+    (FIRST_ADDRESS..=LAST_ADDRESS).contains(&address)
 }
 
 // The caller's fault.
+#[tactic(auto, unfolding(crate::specs::Call::call_fault))]
 pub fn fault(table: &[i32], reply: &[u8], address: u8) -> Result<(), Refusal>
     ensures { number_given result
         ≡ call_fault (record { table = table.now; buffer = reply.now; address = address }) }
