@@ -1,6 +1,8 @@
 -- The writes of a request that meets no fault are stored.
 use Rattle.std.proofs.Common.{◌≡◌, refl, sym, ap₂, ◌∙◌, arith, drop, ℕ, List}
+use Rattle.std.proofs.lemmas.Result.{err_from_is_err_and}
 use Rattle.numbers.specs.Numbers.{none}
+use Rattle.numbers.proofs.Refusals.{refusal-met}
 use Rattle.registers.specs.Faults.{first_word, data_place}
 use Rattle.registers.proofs.Faults.{Counted, counted}
 use Rattle.writes.specs.Writes.{writes, stored_all}
@@ -10,37 +12,35 @@ use Rattle.writes.proofs.Faults.{none-stored, all-stored, several-allowed, sever
 use Rattle.writes.proofs.ReadBack.{span-in-map}
 use Rattle.writes.proofs.write_several.Goals as goal
 
--- a request that meets no fault has right counts
-counts : (body : List ℕ) (fault : ℕ) → fault ≡ several_fault body → fault ≡ none → Counted body
-counts body fault e f = counted body (several-allowed body (sym e ∙ f)).form
+pub returns-in_err-several_fault : goal.returns-in_err-several_fault
+returns-in_err-several_fault c =
+    let refusal = c.in_err-several_fault.field-0.0 in
+    let given = err_from_is_err_and c.from_residual.result c.from_residual.ensures.1 in
+    rw (given.1, given.2) (none-stored _ _ _ c.in_err-several_fault.ensures (refusal-met refusal))
 
-pub returns-then-fault-ne-NONE : goal.returns-then-fault-ne-NONE
-returns-then-fault-ne-NONE c = none-stored _ _ _ c.several_fault-fault.ensures c.if-fault-ne-NONE.true
+-- a request that meets no fault has right counts
+counts : (body : List ℕ) → none ≡ several_fault body → Counted body
+counts body e = counted body (several-allowed body (sym e)).form
 
 pub slice_bounds-store_each-count : goal.slice_bounds-store_each-count
-slice_bounds-store_each-count c =
-    let k = counts c.args.body.now _ c.several_fault-fault.ensures c.if-fault-ne-NONE.false in
-    omega arith
+slice_bounds-store_each-count c = let k = counts c.args.body.now c.in_ok-several_fault.ensures in omega arith
 
 pub slice_bounds-store_each-start : goal.slice_bounds-store_each-start
-slice_bounds-store_each-start c =
-    let k = counts c.args.body.now _ c.several_fault-fault.ensures c.if-fault-ne-NONE.false in
-    omega arith
+slice_bounds-store_each-start c = let k = counts c.args.body.now c.in_ok-several_fault.ensures in omega arith
 
 -- and its span is in the map
 pub store_each-requires : goal.store_each-requires
 store_each-requires c =
     let body = c.args.body.now in
-    let fine = sym c.several_fault-fault.ensures ∙ c.if-fault-ne-NONE.false in
-    let k = counts body _ c.several_fault-fault.ensures c.if-fault-ne-NONE.false in
+    let k = counts body c.in_ok-several_fault.ensures in
     let many = several-writes body k in
     let long = to_the_end data_place body in
     let start = c.first_word.ensures in
-    let span = span-in-map (first_word body) (drop data_place body) (several-allowed body fine).registers (omega arith) in
+    let span = span-in-map (first_word body) (drop data_place body) (several-allowed body (sym c.in_ok-several_fault.ensures)).registers (omega arith) in
     omega arith
 
 pub returns : goal.returns
 returns c =
-    all-stored _ _ _ (sym (sym c.several_fault-fault.ensures ∙ c.if-fault-ne-NONE.false)) refl
+    all-stored _ _ _ c.in_ok-several_fault.ensures refl
     (c.store_each.ensures
     ∙ ap₂ (λ (r : ℕ) (bytes : List ℕ). stored_all c.args.table.now (writes r bytes)) c.first_word.ensures (to_the_end data_place c.args.body.now))
