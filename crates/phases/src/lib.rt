@@ -9,7 +9,7 @@ ghost use Rattle.phases.specs.Decision.{at_digit, first_or, at_addressed, at_one
 use line::{ACK, ENQ, EOT, ETX, NAK, STX};
 use numbers::Refusal;
 
-// ---- the phases
+// ---- the phases, as numbers: a link state comes back from C with any byte for its phase, which has to be told from these
 
 pub const REST: u8 = 0;
 
@@ -58,13 +58,10 @@ pub enum Act {
 fn at_digit(digit: u8, next: u8, c: u8) -> Act
     ensures { result ≡ at_digit digit next c }
 {
-    match c {
-        b'0'..=b'9' => if c - b'0' == digit {
-            Act::Go(next)
-        } else {
-            Act::Go(REST)
-        },
-        _ => Act::Go(REST),
+    if c.is_ascii_digit() && c - b'0' == digit {
+        Act::Go(next)
+    } else {
+        Act::Go(REST)
     }
 }
 
@@ -88,15 +85,14 @@ fn at_addressed(c: u8) -> Act
     }
 }
 
-// The second character of an identifier. DEL stands apart: it is neither printable nor a line error.
+// The second character of an identifier. DEL is neither printable nor a line error.
 fn at_one_character(first: u8, c: u8) -> Act
     ensures { result ≡ at_one_character first c }
 {
     match c {
-        0x00..=0x1F => Act::Quit(Refusal::NotBelonging),
         0x20..=0x7E => Act::Both(first, c),
-        0x7F => Act::Quit(Refusal::NotBelonging),
         0x80..=0xFF => Act::Go(REST),
+        _ => Act::Quit(Refusal::NotBelonging),
     }
 }
 
