@@ -18,10 +18,11 @@ use Rattle.text.specs.Numbers.{width}
 use Rattle.text.specs.Writing.{written_as}
 use Rattle.block.specs.Block.{Judges, Verdict}
 use Rattle.block.specs.declared.Setting.{Setting}
+use Rattle.block.proofs.Laws.{stores, refuses}
 use Rattle.rkc.specs.declared.Link.{Link}
 use Rattle.rkc.specs.declared.Stepped.{Stepped}
 use Rattle.rkc.specs.State.{in_phase, waiting_on, as_block, used, in_limits}
-use Rattle.rkc.specs.Outcome.{Step, Outcome, keeping, silent, sends, quit, no_room, data_reply, item_text, item_sent, judged, performed, asked, handed_back, done}
+use Rattle.rkc.specs.Outcome.{Step, Outcome, keeping, silent, sends, quit, no_room, data_reply, item_text, with_text, item_sent, judged, performed, asked, handed_back, done}
 use Rattle.rkc.specs.Outcome.{bad_state, step_fault, ByteCall, good_settings, byte_fault, received}
 use Rattle.rkc.specs.Outcome.{IdleCall, elapsed, patience, timed_out, idle_fault, passed, idled}
 use Rattle.rkc.specs.Promise.{Steps, Does}
@@ -40,16 +41,21 @@ done-by l t structure time e = ap (performed l t structure time) e
 
 -- ---- an item's number text fits, or not
 
-module _ (structure time : ℕ) (t : List ℤ) (i : ℕ) where
-  pub item-fits : (six : List ℕ) → written_as width (Ok six) ≡ item_text t i
+module _ (structure time : ℕ) (t : List ℤ) (i : ℕ) (w : Result (List ℕ) Refusal) (e : written_as width w ≡ item_text t i) where
+  pub item-fits : {six : List ℕ} → w ≡ Ok six
       → item_sent structure time t i
       ≡ record { link = waiting_on (i + 1) time; number = none; reply = map (sent structure) (data_reply i six) }
   unfolding item_sent
-  item-fits six e = rw (← e) refl
+  item-fits q = rw (← e, q) refl
 
-  pub item-too-long : (r : Refusal) → written_as width (Err r) ≡ item_text t i → item_sent structure time t i ≡ quit structure no_room
+  pub item-too-long : ((six : List ℕ) → w ≡ Ok six → ⊥) → item_sent structure time t i ≡ quit structure no_room
   unfolding item_sent
-  item-too-long r e = rw (← e) (simp (ne_eqb _ _ (refusal-met r)))
+  item-too-long n = rw (← e) (refused w n)
+    where
+      refused : (w : Result (List ℕ) Refusal) → ((six : List ℕ) → w ≡ Ok six → ⊥)
+          → with_text structure time i (written_as width w) ≡ quit structure no_room
+      refused (Ok six) n = absurd (n six refl)
+      refused (Err r) n = simp (ne_eqb _ none (refusal-met r))
 
 -- ---- a verdict on a block: a setting, or a refusal
 
@@ -58,15 +64,14 @@ module _ (structure : ℕ) (t : List ℤ) (l : Link) (c : ℕ) {v : Verdict} (j 
       → judged structure t l c
       ≡ record { step = sends structure ACK (in_phase phases.answered) none; table = stored t s.place s.value }
   judged-stored {s} e =
-      let k : Judges (xu_of t) l.mark l.bcc l.count l.kept c (Ok s) = subst (Judges (xu_of t) l.mark l.bcc l.count l.kept c) e j in
-      let z = sym k.number in
-      rw (rw z at k.item, rw z at k.value) (simp (eq-eqb _ _ z))
+      let k = stores (xu_of t) l.mark l.bcc l.count l.kept c s (subst (Judges (xu_of t) l.mark l.bcc l.count l.kept c) e j) in
+      rw (k.1, k.2) (simp (eq-eqb _ _ k.0))
 
   pub judged-refused : {r : Refusal} → v ≡ Err r
       → judged structure t l c ≡ keeping t (sends structure NAK (in_phase phases.answered) (number_of r))
   judged-refused {r} e =
-      let k : Judges (xu_of t) l.mark l.bcc l.count l.kept c (Err r) = subst (Judges (xu_of t) l.mark l.bcc l.count l.kept c) e j in
-      rw (← k.number) (simp (ne_eqb _ none (refusal-met r)))
+      let k = refuses (xu_of t) l.mark l.bcc l.count l.kept c r (subst (Judges (xu_of t) l.mark l.bcc l.count l.kept c) e j) in
+      rw k.0 (simp (ne_eqb _ none k.1))
 
 -- ---- the caller's faults
 

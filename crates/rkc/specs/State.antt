@@ -1,5 +1,6 @@
 -- The states of the link: what each phase uses, and the limits of it.
-use Rattle.std.specs.Prelude.{ℕ, ◌+◌, ◌-◌, Bool, true, false, cond, ◌&&◌, ◌||◌, List, [], ◌∷◌, ◌++◌, length, replicate, ◌==◌, bit_xor, nat_le, nat_lt, slice_index, slice_set}
+use Rattle.std.specs.Prelude.{ℕ, ◌+◌, ◌-◌, Bool, false, cond, ◌&&◌, ◌||◌, List, [], ◌∷◌, ◌++◌, length, replicate, ◌==◌, bit_xor, nat_le, nat_lt, slice_index, slice_set}
+use Rattle.std.specs.List.{list_all}
 use Rattle.kept.specs.Kept.{up_to}
 use Rattle.items.specs.ItemList.{listed}
 use Rattle.line.specs.Line.{ETX, top_bit, low_seven, is_line_error, within}
@@ -61,8 +62,7 @@ abbrev pub is_character : ℕ → Bool
 is_character c = nat_lt c top_bit
 
 abbrev pub all_characters : List ℕ → Bool
-all_characters [] = true
-all_characters (c ∷ cs) = is_character c && all_characters cs
+all_characters = list_all is_character
 
 -- the count stops at one more than are kept, which tells that a block is too long
 abbrev pub most_counted : ℕ

@@ -17,14 +17,7 @@ use phases::{ANSWERED, BCC_DUE, ONE_CHARACTER, TEXT, TWO_CHARACTERS, WAITING};
 fn all_characters(chars: &[u8]) -> bool
     ensures { result ≡ all_characters chars.now }
 {
-    let mut i = 0;
-    while i < chars.len() {
-        if TOP_BIT <= chars[i] {
-            return false;
-        }
-        i += 1;
-    }
-    true
+    chars.iter().all(|c| *c < TOP_BIT)
 }
 
 // Whether address and structure are ones that a line has.
@@ -39,8 +32,7 @@ impl Link {
     fn block_in_limits(self) -> bool
         ensures { result ≡ block_in_limits self }
     {
-        let kept = self.kept;
-        let front = kept::up_to(kept, self.count);
+        let front = kept::up_to(self.kept, self.count);
         self.count <= MOST_COUNTED && self.bcc < TOP_BIT && all_characters(&front)
     }
 

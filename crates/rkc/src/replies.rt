@@ -35,12 +35,10 @@ pub(crate) fn put(reply: &mut [u8], structure: u8, chars: &[u8]) -> usize
     ensures { (result ≡ length chars.now)
         × (reply.new ≡ sets reply.old 0 (map (sent structure) chars.now)) }
 {
-    let mut i = 0;
-    while i < chars.len() {
-        reply[i] = line::sent(structure, chars[i]);
-        i += 1;
+    for (i, c) in chars.iter().enumerate() {
+        reply[i] = line::sent(structure, *c);
     }
-    i
+    chars.len()
 }
 
 // One character is sent.

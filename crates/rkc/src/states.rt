@@ -6,24 +6,27 @@ ghost use Rattle.rkc.specs.State.{in_phase, holding_one, holding_two, waiting_on
 use crate::Link;
 use block::MOST_KEPT;
 use line::{ETX, TOP_BIT};
-use phases::{BCC_DUE, ONE_CHARACTER, TEXT, TWO_CHARACTERS, WAITING};
+use phases::{BCC_DUE, ONE_CHARACTER, REST, TEXT, TWO_CHARACTERS, WAITING};
 
 // Up to here a block's characters are counted: one more than are kept tells that it is too long.
 pub(crate) const MOST_COUNTED: u8 = MOST_KEPT as u8 + 1;
+
+// All at 0: what a phase does not use.
+const AT_REST: Link = Link {
+    phase: REST,
+    item: 0,
+    count: 0,
+    bcc: 0,
+    mark: false,
+    kept: [0; MOST_KEPT],
+    time: 0,
+};
 
 // A phase that uses nothing else.
 pub(crate) fn in_phase(phase: u8) -> Link
     ensures { result ≡ in_phase phase }
 {
-    Link {
-        phase,
-        item: 0,
-        count: 0,
-        bcc: 0,
-        mark: false,
-        kept: [0; MOST_KEPT],
-        time: 0,
-    }
+    Link { phase, ..AT_REST }
 }
 
 // One identifier character is kept.
@@ -32,12 +35,8 @@ pub(crate) fn holding_one(a: u8) -> Link
 {
     Link {
         phase: ONE_CHARACTER,
-        item: 0,
-        count: 0,
-        bcc: 0,
-        mark: false,
         kept: [a, 0, 0, 0, 0, 0, 0, 0],
-        time: 0,
+        ..AT_REST
     }
 }
 
@@ -47,12 +46,8 @@ pub(crate) fn holding_two(a: u8, b: u8) -> Link
 {
     Link {
         phase: TWO_CHARACTERS,
-        item: 0,
-        count: 0,
-        bcc: 0,
-        mark: false,
         kept: [a, b, 0, 0, 0, 0, 0, 0],
-        time: 0,
+        ..AT_REST
     }
 }
 
@@ -63,11 +58,8 @@ pub(crate) fn waiting_on(item: u8, time: u32) -> Link
     Link {
         phase: WAITING,
         item,
-        count: 0,
-        bcc: 0,
-        mark: false,
-        kept: [0; MOST_KEPT],
         time,
+        ..AT_REST
     }
 }
 
@@ -77,12 +69,11 @@ fn block(phase: u8, count: u8, bcc: u8, mark: bool, kept: [u8; MOST_KEPT]) -> Li
 {
     Link {
         phase,
-        item: 0,
         count,
         bcc,
         mark,
         kept,
-        time: 0,
+        ..AT_REST
     }
 }
 
@@ -90,11 +81,7 @@ fn block(phase: u8, count: u8, bcc: u8, mark: bool, kept: [u8; MOST_KEPT]) -> Li
 fn one_more(count: u8) -> u8
     ensures { result ≡ one_more count }
 {
-    if count < MOST_COUNTED {
-        count + 1
-    } else {
-        MOST_COUNTED
-    }
+    count.saturating_add(1).min(MOST_COUNTED)
 }
 
 // Whether a block is marked after one more character, as it was heard.
@@ -109,17 +96,16 @@ impl Link {
     pub(crate) fn used(self) -> Link
         ensures { result ≡ used self }
     {
-        let phase = self.phase;
         let kept = self.kept;
-        match phase {
+        match self.phase {
             ONE_CHARACTER => holding_one(kept[0]),
             TWO_CHARACTERS => holding_two(kept[0], kept[1]),
             WAITING => waiting_on(self.item, self.time),
             TEXT..=BCC_DUE => {
                 let front = kept::up_to(kept, self.count);
-                block(phase, self.count, self.bcc, self.mark, front)
+                block(self.phase, self.count, self.bcc, self.mark, front)
             }
-            _ => in_phase(phase),
+            _ => in_phase(self.phase),
         }
     }
 
@@ -128,8 +114,7 @@ impl Link {
         ensures { result ≡ with_more (as_block self) c }
     {
         let low = line::low_seven(c);
-        let before = self.kept;
-        let front = kept::up_to(before, self.count);
+        let front = kept::up_to(self.kept, self.count);
         let kept = kept::keep(front, self.count, low);
         block(
             TEXT,
@@ -144,8 +129,7 @@ impl Link {
     pub(crate) fn with_end(self) -> Link
         ensures { result ≡ with_end (as_block self) }
     {
-        let before = self.kept;
-        let kept = kept::up_to(before, self.count);
+        let kept = kept::up_to(self.kept, self.count);
         block(BCC_DUE, self.count, self.bcc ^ ETX, self.mark, kept)
     }
 }

@@ -52,9 +52,8 @@ impl Link {
         ensures { Does (judged structure table.old self c) result
             reply.old reply.new table.new }
     {
-        let kept = self.kept;
         let xu = table::xu(&table[..]);
-        match block::judge(xu, self.mark, self.bcc, self.count, kept, c) {
+        match block::judge(xu, self.mark, self.bcc, self.count, self.kept, c) {
             Ok(setting) => {
                 table::store(table, setting.place, setting.value);
                 send_one(reply, structure, ACK, in_phase(ANSWERED), NONE)
@@ -94,5 +93,5 @@ impl Link {
 pub(crate) fn elapsed(present: u32, since: u32) -> u32
     ensures { result ≡ elapsed present since }
 {
-    std::num::wrapping_sub_u32(present, since)
+    present.wrapping_sub(since)
 }

@@ -1,5 +1,6 @@
 -- `Link::byte` meets its contract: what the byte asks for is performed, or a fault hands all back.
 use Rattle.std.proofs.Common.{sym, refl, ◌∙◌}
+use Rattle.numbers.proofs.Refusals.{refusal-met}
 use Rattle.rkc.specs.Outcome.{ByteCall, byte_fault}
 use Rattle.rkc.proofs.Cases.{does-by, byte-none, received-fault, received-act}
 use Rattle.rkc.proofs.Limits.{act-limited}
@@ -10,21 +11,20 @@ unfolding byte_fault
 perform-requires c =
     let a = c.args in
     let call : ByteCall = record { link = a.self; table = a.table.now; buffer = a.reply.now; address = a.address; structure = a.structure; time = a.time; byte = a.byte } in
-    let fine = (byte-none call (sym c.byte_fault-number.ensures ∙ c.if-number-eq0.true)).step in
+    let fine = (byte-none call (sym c.in_default.ensures)).step in
     (fine.roomy, act-limited a.self fine.limits _ _ c.decide-act.ensures)
 
-pub returns-then-number-eq0 : goal.returns-then-number-eq0
+pub returns : goal.returns
 unfolding byte_fault
-returns-then-number-eq0 c =
+returns c =
     let a = c.args in
     let call : ByteCall = record { link = a.self; table = a.table.now; buffer = a.reply.now; address = a.address; structure = a.structure; time = a.time; byte = a.byte } in
-    does-by (received-act call c.byte_fault-number.ensures c.if-number-eq0.true c.heard-c.ensures c.decide-act.ensures)
-    c.perform.ensures
+    does-by (received-act call c.in_default.ensures refl c.heard-c.ensures c.decide-act.ensures) c.perform.ensures
 
-pub returns-else-number-eq0 : goal.returns-else-number-eq0
+pub returns-in-Err : goal.returns-in-Err
 unfolding byte_fault
-returns-else-number-eq0 c =
+returns-in-Err c =
     let a = c.args in
     let call : ByteCall = record { link = a.self; table = a.table.now; buffer = a.reply.now; address = a.address; structure = a.structure; time = a.time; byte = a.byte } in
-    does-by (received-fault call c.byte_fault-number.ensures c.if-number-eq0.false)
-    (record { steps = record { back = c.handed_back.ensures; sent = refl }; left = refl })
+    does-by (received-fault call c.in-Err.ensures (refusal-met c.in-Err.refusal))
+    (record { steps = record { back = c.handed_back.ensures ∙ rw c.number.ensures; sent = refl }; left = refl })

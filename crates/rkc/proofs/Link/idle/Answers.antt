@@ -1,23 +1,24 @@
 -- `Link::idle` meets its contract: a fault; three seconds; another phase or too early.
 use Rattle.std.proofs.Common.{◌≡◌, sym, refl, ◌∙◌, arith, le-leb}
 use borrow.Author.Tests.{lt-leb}
+use Rattle.numbers.proofs.Refusals.{refusal-met}
 use Rattle.rkc.specs.State.{used}
 use Rattle.rkc.specs.Outcome.{IdleCall, idle_fault, silent, passed}
 use Rattle.rkc.proofs.Cases.{steps-by, step-none, idled-fault, idled-fine, passed-other, passed-early, passed-late}
 use Rattle.rkc.proofs.Link.idle.Goals as goal
 use Rattle.rkc.proofs.Link.idle.Goals.{else-self-eq-WAITING-via-then-self-eq-WAITING+else-elapsed-ge-PATIENCE, else-self-eq-WAITING-via-else-self-eq-WAITING}
 
-pub returns-then-number-ne0 : goal.returns-then-number-ne0
+pub returns-in-Err : goal.returns-in-Err
 unfolding idle_fault
-returns-then-number-ne0 c =
+returns-in-Err c =
     let a = c.args in
     let call : IdleCall = record { link = a.self; buffer = a.reply.now; structure = a.structure; time = a.time } in
-    steps-by (idled-fault call c.idle_fault-number.ensures c.if-number-ne0.true)
-    (record { back = c.handed_back.ensures; sent = refl })
+    steps-by (idled-fault call c.in-Err.ensures (refusal-met c.in-Err.refusal))
+    (record { back = c.handed_back.ensures ∙ rw c.number.ensures; sent = refl })
 
 pub quit-requires : goal.quit-requires
 quit-requires c =
-    let fine = step-none _ _ _ (sym c.idle_fault-number.ensures ∙ c.if-number-ne0.false) in
+    let fine = step-none _ _ _ (sym c.in_default.ensures) in
     omega (arith, fine.roomy)
 
 pub returns-then-elapsed-ge-PATIENCE : goal.returns-then-elapsed-ge-PATIENCE
@@ -26,7 +27,7 @@ returns-then-elapsed-ge-PATIENCE c =
     let a = c.args in
     let call : IdleCall = record { link = a.self; buffer = a.reply.now; structure = a.structure; time = a.time } in
     steps-by
-    (idled-fine call c.idle_fault-number.ensures c.if-number-ne0.false
+    (idled-fine call c.in_default.ensures refl
     ∙ passed-late a.self _ _ c.if-self-eq-WAITING.true c.elapsed.ensures (le-leb _ _ c.if-elapsed-ge-PATIENCE.true))
     c.quit.ensures
 
@@ -41,5 +42,5 @@ returns c =
           passed-early a.self _ _ w.if-self-eq-WAITING.true w.elapsed.ensures (lt-leb _ _ w.if-elapsed-ge-PATIENCE.false)
       | else-self-eq-WAITING-via-else-self-eq-WAITING w ↦ passed-other a.self _ _ w.if-self-eq-WAITING.false
     ] in
-    steps-by (idled-fine call c.idle_fault-number.ensures c.if-number-ne0.false ∙ stays)
+    steps-by (idled-fine call c.in_default.ensures refl ∙ stays)
     (record { back = c.silent.ensures ∙ rw c.used.ensures; sent = refl })

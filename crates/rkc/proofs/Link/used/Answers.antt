@@ -4,7 +4,7 @@ use Rattle.line.proofs.Laws.{within_in, within-below, within-above}
 use Rattle.phases.specs.Phases.{one_character, two_characters, waiting}
 use Rattle.rkc.specs.State.{used}
 use Rattle.rkc.proofs.Link.used.Goals as goal
-use Rattle.rkc.proofs.Link.used.Goals.{in_default-via-then-phase-lt4, in_default-via-else-phase-lt4+else-phase-lt9}
+use Rattle.rkc.proofs.Link.used.Goals.{in_default-via-then-self-lt4, in_default-via-else-self-lt4+else-self-lt9}
 
 pub returns-in-4 : goal.returns-in-4
 unfolding used
@@ -30,10 +30,10 @@ unfolding used
 returns-in_default c =
     let p = c.args.self.phase in
     elim c.in_default.branch [
-      | in_default-via-then-phase-lt4 w ↦
+      | in_default-via-then-self-lt4 w ↦
           simp (ne_eqb p one_character (λ e. omega arith), ne_eqb p two_characters (λ e. omega arith), ne_eqb p waiting (λ e. omega arith), within-below 7 8 p (omega arith))
           c.in_phase.ensures
-      | in_default-via-else-phase-lt4+else-phase-lt9 w ↦
+      | in_default-via-else-self-lt4+else-self-lt9 w ↦
           simp (ne_eqb p one_character (λ e. omega arith), ne_eqb p two_characters (λ e. omega arith), ne_eqb p waiting (λ e. omega arith), within-above 7 8 p (omega arith))
           c.in_phase.ensures
     ]
