@@ -1,21 +1,30 @@
 -- A frame by its number: the records up to it lead back from the place behind it, so that it begins behind the frames before it, and
 -- is a part of the capture.
 -- Assumes nothing.
+use Rattle.std.specs.Prelude.{Option, Err}
+use Rattle.std.specs.Borrow.{Bor}
 use mathlib.Core.Path.{◌≡◌, refl, sym, ap, ◌∙◌}
 use mathlib.Core.Bool.{Bool, true, false, cond}
 use mathlib.Core.List.{List, []}
 use Prim.Native.Nat.{ℕ, zero, suc, ◌+◌, ◌-◌, ◌≤◌, ◌<◌}
+use native.Mathlib.Numerals.{add-one}
 use native.Mathlib.Omega.{arith}
 use borrow.Author.Tests.{eqb-true, leb-true, eq-eqb, le-leb, lt-leb}
 use lib.Dec.{eqb, leb}
 use lib.ListN.{length, get_or, take, drop}
 use lib.Seq.{take_all, take-take, get_or-take}
+use Rattle.numbers.specs.declared.Refusal.{Refusal}
 use Rattle.numbers.specs.Numbers.{none}
+use Rattle.numbers.specs.Refusals.{number_of}
+use Rattle.numbers.proofs.Refusals.{refusal-met}
 use Rattle.numbers.proofs.Tests.{both}
 use Rattle.numbers.proofs.Order.{this-first, neither-first, passed, is-refused, is-done}
-use Rattle.capture.specs.Format.{longest_capture, size, begins, frame_before, trailer_begins, count, capture_fault, frames_to, frames}
+use Rattle.capture.specs.declared.Back.{Back}
+use Rattle.capture.specs.Back.{Steps}
+use Rattle.capture.specs.Format.{longest_capture, size, begins, record_ends, frame_before, trailer_begins, count, reaches, capture_fault}
+use Rattle.capture.specs.Format.{frames_to, frames}
 use Rattle.capture.specs.Recorded.{records, place_behind}
-use Rattle.capture.specs.Show.{no_such_frame, show_number, shown_frame, shown_place, Shows}
+use Rattle.capture.specs.Show.{no_such_frame, show_number, shown_as, shown_frame, shown_place, Shows}
 use Rattle.capture.proofs.Walk.{Walking, last-ends, goes_on, frame-length, frames-length, last_frame, front-frames, walk-length}
 use Rattle.capture.proofs.Walk.{sound}
 
@@ -46,7 +55,7 @@ module _ (c : List ℕ) where
         same = sym (front-frames c n end) ∙ ap (take n) f.same ∙ take-take n (suc n) (frames c) (omega arith);
       }
 
-  pub one-less-front : (n : ℕ) {end : ℕ} → 0 < n → Front c n end → Front c (n - 1) (begins c end)
+  one-less-front : (n : ℕ) {end : ℕ} → 0 < n → Front c n end → Front c (n - 1) (begins c end)
   one-less-front zero h f = absurd (omega arith)
   one-less-front (suc n) h f = let less : suc n - 1 ≡ n = omega arith in rw less (front-before n f)
 
@@ -64,6 +73,34 @@ module _ (c : List ℕ) where
           let g = rw here at f in
           rw (← (front-place n g)) g
       fall (suc k) m s f = fall k (m - 1) (omega arith) (one-less-front m (omega arith) f)
+
+-- ---- a walk back from the trailer
+
+-- so many records are left
+pub record Fronted (c : List ℕ) (left : ℕ) (walk : Back) : Type 0 where
+  pub same : walk.capture.now ≡ c
+  pub front : Front c left walk.end
+
+module _ (c : List ℕ) (left : ℕ) (walk : Back) where
+  -- all are, at the trailer
+  pub fronted_all : capture_fault c ≡ none → walk.capture.now ≡ c → walk.end ≡ trailer_begins c → left ≡ count c → Fronted c left walk
+  fronted_all fine same e z = record { same = same; front = rw (e, z) (all-front c fine) }
+
+  module _ (f : Fronted c left walk) where
+    pub fronted_place : walk.end ≡ place_behind left (frames c)
+    fronted_place = front-place c left f.front
+
+    -- and one less from the next step
+    pub fronted_on : (further : Back) (given : Option ℕ) → Steps walk given further → {rest : ℕ} → left ≡ rest + 1 → Fronted c rest further
+    fronted_on further given s {rest} e =
+        let fewer : left - 1 ≡ rest = omega arith in
+        let walking = rw e at f.front.walking in
+        let r = both (record_ends c walk.end) (reaches c rest (begins c walk.end)) (rw add-one at walking.reached) in
+        let here : further.end ≡ begins c walk.end = s.further ∙ rw (f.same, r.0) in
+        record {
+          same = ap (λ (b : Bor (List ℕ)). b.now) s.same ∙ f.same;
+          front = rw here (rw fewer at (one-less-front c left (omega arith) f.front));
+        }
 
 -- ---- one frame
 
@@ -133,11 +170,10 @@ module _ (c : List ℕ) (frame : ℕ) where
       record { fine = f.0; some = leb-true _ _ n.0; few = omega arith }
 
   -- a refusal shows nothing at place 0, and else the frame is shown where it stands
-  pub shows_nothing : {number : ℕ} → number ≡ show_number c frame → (number ≡ none → ⊥)
-      → Shows c frame (record { number = number; place = 0; len = 0 })
+  pub shows-refused : (refusal : Refusal) → number_of refusal ≡ show_number c frame → Shows c frame (shown_as (Err refusal))
   unfolding shown_frame shown_place
-  shows_nothing e h =
-      let met : show_number c frame ≡ none → ⊥ = λ z. h (e ∙ z) in
+  shows-refused refusal e =
+      let met : show_number c frame ≡ none → ⊥ = λ z. refusal-met refusal (e ∙ z) in
       record {
         given = e;
         place = sym (is-refused (show_number c frame) (λ number. 0) (place_behind (frame - 1) (frames c)) met);

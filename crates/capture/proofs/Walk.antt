@@ -2,7 +2,10 @@
 -- frames that they have. A capture that meets no fault is walked from its trailer.
 -- Assumes nothing.
 use mathlib.Core.Path.{◌≡◌, refl, sym, ap, ◌∙◌}
-use mathlib.Core.Bool.{Bool, true, false, ◌&&◌}
+use Rattle.std.specs.Prelude.{Option, Some, None}
+use Rattle.std.specs.Borrow.{Bor}
+use Rattle.std.specs.Option.{is_some}
+use mathlib.Core.Bool.{Bool, true, false, cond, ◌&&◌}
 use mathlib.Core.List.{List, [], ◌∷◌, ◌++◌, append_assoc}
 use Prim.Native.Nat.{ℕ, zero, suc, ◌+◌, ◌-◌, ◌≤◌, ◌<◌}
 use native.Mathlib.Omega.{arith}
@@ -18,6 +21,8 @@ use Rattle.capture.specs.Format.{bad_capture, longest_capture, longest_frame, si
 use Rattle.capture.specs.Format.{trailer_length, trailer_begins, count, last_place, reaches, allowed_length, trailer_points, trailer_right}
 use Rattle.capture.specs.Format.{well_formed, capture_fault, frames_to}
 use Rattle.capture.specs.Recorded.{records, place_behind}
+use Rattle.capture.specs.declared.Back.{Back}
+use Rattle.capture.specs.Back.{Steps}
 
 -- ---- one record
 
@@ -37,6 +42,10 @@ module _ (c : List ℕ) (end : ℕ) where
       let s = both some few b.0 in
       let room : size c end + 2 ≤ end = leb-true _ _ b.1 in
       record { some = leb-true _ _ s.0; few = leb-true _ _ s.1; behind = omega arith }
+
+  -- it begins in front of there
+  pub nearer : record_ends c end ≡ true → begins c end < end
+  nearer e = let behind = (ends e).behind in omega arith
 
   -- its frame is as long as it says
   pub frame-length : Ends c end → end ≤ length c → length (frame_before c end) ≡ size c end
@@ -63,14 +72,44 @@ module _ {c : List ℕ} {end : ℕ} where
       let all = w.inside in
       record { inside = omega arith; reached = (both (record_ends c end) (reaches c n (begins c end)) w.reached).1 }
 
--- the loop: with one left the walk goes on where a record ends, and with none it is to be at place 0
-module _ (c : List ℕ) (end : ℕ) where
-  pub one_less : (left : ℕ) → 0 < left → reaches c left end ≡ (record_ends c end && reaches c (left - 1) (begins c end))
-  one_less zero h = absurd (omega arith)
-  one_less (suc n) h = let less : suc n - 1 ≡ n = omega arith in rw less
+-- ---- a walk back that is to reach place 0, as it is told of the place where it began
 
-  pub none_left : (left : ℕ) → left ≤ 0 → reaches c left end ≡ eqb end 0
-  none_left left h = let none : left ≡ 0 = omega arith in rw none
+-- so many records are left
+pub record Leads (c : List ℕ) (records place left : ℕ) (walk : Back) : Type 0 where
+  pub same : walk.capture.now ≡ c
+  pub leads : reaches c left walk.end ≡ reaches c records place
+
+module _ (c : List ℕ) (records place left : ℕ) (walk : Back) (l : Leads c records place left walk) where
+  -- with none left it is to be there
+  pub leads_here : left ≡ 0 → reaches c records place ≡ eqb walk.end 0
+  leads_here z = sym l.leads ∙ ap (λ (n : ℕ). reaches c n walk.end) z
+
+  module _ (further : Back) (given : Option ℕ) (s : Steps walk given further) where
+    ended : is_some given ≡ record_ends c walk.end
+    ended = ap is_some s.place ∙ by (record_ends walk.capture.now walk.end) ∙ ap (λ (d : List ℕ). record_ends d walk.end) l.same
+      where
+        by : (b : Bool) → is_some (cond b (Some walk.end) None) ≡ b
+        by true = refl
+        by false = refl
+
+    one-less : 0 < left → reaches c left walk.end ≡ (record_ends c walk.end && reaches c (left - 1) (begins c walk.end))
+    one-less h = let more : left ≡ suc (left - 1) = omega arith in ap (λ (n : ℕ). reaches c n walk.end) more
+
+    -- it leads nowhere where no record ends
+    pub leads_nowhere : 0 < left → is_some given ≡ false → reaches c records place ≡ false
+    leads_nowhere h n = sym l.leads ∙ one-less h ∙ rw (sym ended ∙ n)
+
+    -- and else one less is left from the next
+    pub leads_on : {rest : ℕ} → left ≡ rest + 1 → is_some given ≡ true → Leads c records place rest further
+    leads_on {rest} e n =
+        let r = sym ended ∙ n in
+        let less : left - 1 ≡ rest = omega arith in
+        let here : further.end ≡ begins c walk.end = s.further ∙ rw (l.same, r) in
+        let one : reaches c left walk.end ≡ reaches c rest (begins c walk.end) = one-less (omega arith) ∙ rw (r, less) in
+        record {
+          same = ap (λ (b : Bor (List ℕ)). b.now) s.same ∙ l.same;
+          leads = rw here (sym one ∙ l.leads);
+        }
 
 -- ---- their frames
 

@@ -2,12 +2,14 @@
 // function takes bytes of any length: past the end of a capture a byte counts as 0, and a difference below zero is 0.
 #![tactic(auto)]
 
-ghost use Rattle.std.specs.Prelude.{◌≡◌, ◌+◌, ◌-◌, ◌≤◌, ◌<◌, length, take};
+ghost use Rattle.std.specs.Prelude.{◌≡◌, ◌+◌, ◌≤◌, ◌<◌, length, take};
+ghost use Rattle.std.specs.Iterator.{at_most};
 ghost use Rattle.numbers.specs.Numbers.{none};
 ghost use Rattle.numbers.specs.Refusals.{number_given};
 ghost use Rattle.capture.specs.Format.{two_at, size, begins, record_ends, frame_before, PartOf, trailer_begins, count, last_place};
 ghost use Rattle.capture.specs.Format.{reaches, trailer_right, capture_fault, frames};
 ghost use Rattle.capture.specs.Recorded.{place_behind};
+ghost use Rattle.capture.specs.Back.{Steps};
 ghost use Rattle.capture.specs.Show.{shown_as, shown_frame, shown_place, Shows};
 
 use numbers::Refusal;
@@ -30,22 +32,15 @@ pub struct Stretch {
 
 // ---- numbers
 
-// The difference, 0 where it would be below zero.
-fn difference(a: usize, b: usize) -> usize
-    ensures { result ≡ a - b }
-{
-    if a < b { 0 } else { a - b }
-}
-
 // The number that two bytes from a place on make, the high one first.
 fn two_at(capture: &[u8], i: usize) -> usize
     requires { i + 1 < 0x10000000000000000 }
     ensures { result ≡ two_at capture.now i }
 {
-    registers::word(
+    usize::from(registers::word(
         registers::byte_at(capture, i),
         registers::byte_at(capture, i + 1),
-    ) as usize
+    ))
 }
 
 // ---- a record: the bytes of a frame, then two with their number
@@ -55,7 +50,7 @@ fn two_at(capture: &[u8], i: usize) -> usize
 fn size(capture: &[u8], end: usize) -> usize
     ensures { result ≡ size capture.now end }
 {
-    two_at(capture, difference(end, SIZE_BYTES))
+    two_at(capture, end.saturating_sub(SIZE_BYTES))
 }
 
 // Where that record begins.
@@ -63,7 +58,7 @@ fn size(capture: &[u8], end: usize) -> usize
 pub fn begins(capture: &[u8], end: usize) -> usize
     ensures { result ≡ begins capture.now end }
 {
-    difference(end, size(capture, end) + SIZE_BYTES)
+    end.saturating_sub(size(capture, end) + SIZE_BYTES)
 }
 
 // Whether a record ends there.
@@ -75,25 +70,14 @@ pub fn record_ends(capture: &[u8], end: usize) -> bool
     (1 <= size) & (size <= LONGEST_FRAME) & (size + SIZE_BYTES <= end)
 }
 
-// A place, or the end of the capture where that comes before it.
-fn within(capture: &[u8], place: usize) -> usize
-    ensures { result ≡ length (take place capture.now) }
-{
-    if capture.len() < place {
-        capture.len()
-    } else {
-        place
-    }
-}
-
 // The frame of the record that ends in front of a place: it begins where the record does, or where the capture ends before that.
 pub fn frame_before(capture: &[u8], end: usize) -> &[u8]
     ensures { PartOf capture.entry (length (take (begins capture.now end) capture.now))
         (frame_before capture.now end) result }
 {
     let begin = begins(capture, end);
-    let from = within(capture, begin);
-    let to = within(capture, begin + size(capture, end));
+    let from = begin.min(capture.len());
+    let to = (begin + size(capture, end)).min(capture.len());
     &capture[from..to]
 }
 
@@ -103,7 +87,7 @@ pub fn frame_before(capture: &[u8], end: usize) -> &[u8]
 pub fn trailer_begins(capture: &[u8]) -> usize
     ensures { result ≡ trailer_begins capture.now }
 {
-    difference(capture.len(), TRAILER_LENGTH)
+    capture.len().saturating_sub(TRAILER_LENGTH)
 }
 
 #[tactic(auto, unfolding(crate::specs::Format::trailer_begins, crate::specs::Format::count))]
@@ -123,20 +107,47 @@ fn last_place(capture: &[u8]) -> usize
 
 // ---- the walk back
 
+// A walk back over a capture: the next record ends in front of `end`, where one does.
+#[derive(Drop)]
+pub struct Back<'a> {
+    pub capture: &'a [u8],
+    pub end: usize,
+}
+
+// Its items are the places in front of which a record ends. It stops where none does, as at place 0.
+impl<'a> Iterator for Back<'a> {
+    type Item = usize;
+
+    ghost next_gives = { Steps };
+
+    ghost remaining = { λ walk. at_most walk.end };
+
+    #[tactic(auto, using(crate::proofs::Walk::nearer))]
+    fn next(&mut self) -> Option<usize> {
+        if !record_ends(self.capture, self.end) {
+            return None;
+        }
+        let end = self.end;
+        self.end = begins(self.capture, end);
+        Some(end)
+    }
+}
+
 // Whether so many records lead back from a place to place 0.
+#[tactic(auto, using(crate::proofs::Walk::leads_here, crate::proofs::Walk::leads_nowhere, crate::proofs::Walk::leads_on))]
 fn reaches(capture: &[u8], records: usize, place: usize) -> bool
     ensures { result ≡ reaches capture.now records place }
 {
-    let mut left = records;
-    let mut end = place;
-    while 0 < left {
-        if !record_ends(capture, end) {
+    let mut back = Back {
+        capture,
+        end: place,
+    };
+    for _ in 0..records {
+        if back.next().is_none() {
             return false;
         }
-        end = begins(capture, end);
-        left -= 1;
     }
-    end == 0
+    back.end == 0
 }
 
 // Whether a walk back can begin: the length is allowed, and the trailer says where the last record begins.
@@ -163,17 +174,19 @@ pub fn fault(capture: &[u8]) -> Result<(), Refusal>
 // ---- a frame is shown
 
 // The place in front of which the record of a frame ends.
+#[tactic(auto, using(crate::proofs::ByNumber::fronted_place))]
 fn end_of(capture: &[u8], frame: usize) -> usize
     requires { (capture_fault capture.now ≡ none) × (frame ≤ count capture.now) }
     ensures { result ≡ place_behind frame (frames capture.now) }
 {
-    let mut left = count(capture);
-    let mut end = trailer_begins(capture);
-    while frame < left {
-        end = begins(capture, end);
-        left -= 1;
+    let mut back = Back {
+        capture,
+        end: trailer_begins(capture),
+    };
+    for _ in frame..count(capture) {
+        back.next();
     }
-    end
+    back.end
 }
 
 // Where a frame stands, by its number from 1.

@@ -1,10 +1,10 @@
--- The loop of `end_of`: the records that are left have the frames at the front. The measure is their number.
-use Rattle.std.proofs.Common.{◌≤◌}
-use Rattle.capture.proofs.ByNumber.{Front}
+-- The loop of `end_of`: the records that are left have the frames at the front. The measure is how many are still to be passed over.
+use Rattle.std.proofs.Common.{◌-◌, ◌+◌}
+use Rattle.capture.proofs.ByNumber.{Fronted}
 use Rattle.capture.proofs.end_of.Given as goal
 
-abbrev pub invariant-loop-left : goal.invariant-loop-left
-invariant-loop-left l = (l.frame ≤ l.left) × Front l.capture l.left l.end
+abbrev pub invariant-loop : goal.invariant-loop
+invariant-loop l = Fronted l.capture (l.end + l.frame - l.counter) l.back
 
-abbrev pub decreases-loop-left : goal.decreases-loop-left
-decreases-loop-left l = l.left
+abbrev pub decreases-loop : goal.decreases-loop
+decreases-loop l = l.end - l.counter

@@ -1,5 +1,6 @@
 -- `frame_before`: a part between two places that are cut off at the end is the part as it is defined.
-use Rattle.std.proofs.Common.{◌≡◌, ℕ, ◌+◌, length, take, arith, ap, ap₂, ◌∙◌}
+use Rattle.std.proofs.Common.{◌≡◌, ◌+◌, length, take, arith, sym, ◌∙◌}
+use Rattle.std.proofs.lemmas.List.{length-take}
 use Rattle.capture.specs.Format.{size, begins, frame_before}
 use Rattle.capture.proofs.Parts.{size_small, part_cut}
 use Rattle.capture.proofs.frame_before.Goals as goal
@@ -12,10 +13,11 @@ pub returns : goal.returns
 unfolding frame_before
 returns c =
     let capture = c.args.capture.now in
-    let from : c.within-from.result ≡ length (take (begins capture c.args.end) capture) =
-    c.within-from.ensures ∙ ap (λ (p : ℕ). length (take p capture)) c.begins-begin.ensures in
-    let to : c.within-to.result ≡ length (take (begins capture c.args.end + size capture c.args.end) capture) =
-    c.within-to.ensures ∙ ap₂ (λ (p n : ℕ). length (take (p + n) capture)) c.begins-begin.ensures c.size.ensures in
+    let from : c.min-from.result ≡ length (take (begins capture c.args.end) capture) =
+    c.min-from.ensures ∙ rw c.begins-begin.ensures (sym (length-take (begins capture c.args.end) capture)) in
+    let to : c.min-to.result ≡ length (take (begins capture c.args.end + size capture c.args.end) capture) =
+    c.min-to.ensures
+    ∙ rw (c.begins-begin.ensures, c.size.ensures) (sym (length-take (begins capture c.args.end + size capture c.args.end) capture)) in
     record {
       bytes = rw (from, to) (part_cut capture (begins capture c.args.end) (size capture c.args.end));
       stands = rw from;

@@ -1,10 +1,11 @@
--- The loop of `reaches`: the records reach place 0 from the start exactly when those that are left do from here.
-use Rattle.std.proofs.Common.{◌≡◌}
-use Rattle.capture.specs.Format.{reaches}
+-- The loop of `reaches`: the records that are left reach place 0 from here exactly when all of them do from the start. The measure is how
+-- many are left.
+use Rattle.std.proofs.Common.{◌-◌}
+use Rattle.capture.proofs.Walk.{Leads}
 use Rattle.capture.proofs.reaches.Given as goal
 
-abbrev pub invariant-loop-left : goal.invariant-loop-left
-invariant-loop-left l = reaches l.capture l.left l.end ≡ reaches l.capture l.records l.place
+abbrev pub invariant-loop : goal.invariant-loop
+invariant-loop l = Leads l.capture l.records l.place (l.records - l.counter) l.back
 
-abbrev pub decreases-loop-left : goal.decreases-loop-left
-decreases-loop-left l = l.left
+abbrev pub decreases-loop : goal.decreases-loop
+decreases-loop l = l.records - l.counter
