@@ -1,6 +1,6 @@
 -- What comes of a message, case by case: by its fault, by its function, and by its address and the buffer's room.
 -- Assumes nothing.
-use mathlib.Core.Path.{◌≡◌, refl, sym, ap, subst, subst⁻¹, ◌∙◌}
+use mathlib.Core.Path.{◌≡◌, refl, sym, ap₂, subst, subst⁻¹, ◌∙◌}
 use mathlib.Core.Bool.{true, false}
 use mathlib.Core.List.{List}
 use Prim.Native.Nat.{ℕ, ◌≤◌, ◌<◌}
@@ -8,15 +8,19 @@ use borrow.Author.Tests.{ne_eqb, leb-true, le-leb, lt-leb}
 use lib.Dec.{eqb, leb}
 use lib.IntN.{ℤ}
 use lib.ListN.{length}
+use Rattle.numbers.specs.declared.Refusal.{Refusal}
 use Rattle.numbers.specs.Numbers.{none, unless_met, short_buffer, least_buffer}
+use Rattle.numbers.specs.Refusals.{number_of}
+use Rattle.numbers.proofs.Refusals.{refusal-met}
 use Rattle.numbers.proofs.Tests.{both}
 use Rattle.numbers.proofs.Order.{is-refused, is-done}
+use Rattle.registers.proofs.Faults.{Numbered, numbered_of}
 use Rattle.modbus.specs.declared.Answered.{Answered}
-use Rattle.modbus.specs.Outcome.{Outcome, other_address, unknown_function, silent, exception_reply, exception}
+use Rattle.modbus.specs.Outcome.{Outcome, other_address, unknown_function, silent, exception}
 use Rattle.modbus.specs.Outcome.{head_length, address_of, function_of}
 use Rattle.modbus.specs.Rules.{read_registers, write_register, loopback, write_several, ours}
 use Rattle.modbus.specs.Rules.{reading, writing, looping_back, writing_several, obeying, acted, acted_within}
-use Rattle.modbus.specs.Promise.{Sends, Gives}
+use Rattle.modbus.specs.Promise.{Gives, Puts, Refuses}
 
 -- ---- a fault, or none
 
@@ -24,16 +28,24 @@ pub gives-by : {o p : Outcome} → p ≡ o → {r : Answered} {before after : Li
     → Gives o r before after left
 gives-by e {r} {before} {after} {left} g = subst (λ (o : Outcome). Gives o r before after left) e g
 
-module _ (fault : ℕ) (t : List ℤ) (body : List ℕ) (o : Outcome) {number : ℕ} {r : Answered} {before after : List ℕ} where
-  pub refused : {left : List ℤ} → number ≡ fault → (number ≡ none → ⊥) → left ≡ t → Sends number (exception_reply body number) r before after
-      → Gives (unless_met fault (exception t body) o) r before after left
-  refused e h l s =
-      gives-by (ap (exception t body) e ∙ sym (is-refused fault (exception t body) o (λ z. h (e ∙ z))))
-      (record { sends = s; table = l })
+module _ (fault : ℕ) (t : List ℤ) (body : List ℕ) (o : Outcome) where
+  -- a refusal by the fault's number, which leaves table and buffer
+  pub refused : {refusal : Refusal} {left : List ℤ} {before : List ℕ} → Numbered fault → number_of refusal ≡ fault → left ≡ t
+      → Refuses (unless_met fault (exception t body) o) refusal body before before left
+  refused {refusal} n e l =
+      record {
+        code = numbered_of n e (refusal-met refusal);
+        outcome = is-refused fault (exception t body) o (λ z. refusal-met refusal (e ∙ z))
+            ∙ ap₂ (λ (s : List ℤ) (number : ℕ). exception s body number) (sym l) (sym e);
+        unsent = refl;
+      }
 
-  pub accepted : {left : List ℤ} → number ≡ fault → number ≡ none → Gives o r before after left
-      → Gives (unless_met fault (exception t body) o) r before after left
-  accepted e h g = gives-by (sym (is-done fault (exception t body) o (sym e ∙ h))) g
+  -- a reply where no fault is met
+  pub accepted : {n : ℕ} {before after : List ℕ} {left : List ℤ} → none ≡ fault → Puts o.reply n before after → o.number ≡ none
+      → left ≡ o.table → Gives (unless_met fault (exception t body) o) (record { number = none; len = n }) before after left
+  accepted e p n l =
+      gives-by (sym (is-done fault (exception t body) o (sym e)))
+      (record { sends = record { given = sym n; len = p.len; sent = p.sent }; table = l })
 
 -- ---- the function, the address and the room
 

@@ -1,22 +1,15 @@
--- Storing a run of bytes, or of registers, by those that are left.
+-- Storing a run of registers, by those that are left.
 -- Assumes nothing.
-use mathlib.Core.Path.{◌≡◌, refl, sym, ap}
+use mathlib.Core.Path.{◌≡◌, refl, sym}
 use mathlib.Core.List.{List}
-use Prim.Native.Nat.{ℕ, zero, suc, ◌+◌, ◌-◌, ◌*◌, ◌/◌, ◌%◌, ◌≤◌, ◌<◌}
+use Prim.Native.Nat.{ℕ, zero, suc, ◌+◌, ◌-◌, ◌*◌, ◌/◌, ◌%◌, ◌<◌}
 use native.Mathlib.Nat.{not-suc-le-zero}
 use native.Mathlib.Numerals.{add-one}
 use native.Mathlib.Omega.{arith}
 use lib.IntN.{ℤ}
-use lib.ListN.{length, drop, get_or, set, drop_of_length-le}
-use lib.Seq.{drop-cons, sets}
+use lib.ListN.{length, set}
+use lib.Seq.{sets}
 use Rattle.registers.specs.Register.{register_at, registers_from}
-
-pub sets-turn : (buffer bytes : List ℕ) (i : ℕ) → i < length bytes
-    → sets buffer i (drop i bytes) ≡ sets (set buffer i (get_or bytes i 0)) (i + 1) (drop (i + 1) bytes)
-sets-turn buffer bytes i h = rw (add-one, drop-cons bytes i 0)
-
-pub sets_end : (buffer bytes : List ℕ) (i : ℕ) → length bytes ≤ i → sets buffer i (drop i bytes) ≡ buffer
-sets_end buffer bytes i h = ap (sets buffer i) (drop_of_length-le bytes h)
 
 -- a register is sent as two bytes
 pub length-registers : (t : List ℤ) (r n : ℕ) → length (registers_from t r n) ≡ 2 * n
@@ -44,6 +37,3 @@ module _ (t : List ℤ) (buffer : List ℕ) (start quantity i : ℕ) where
       let next : start + (i + 1) ≡ start + i + 1 = omega arith in
       let left : quantity - (i + 1) ≡ quantity - i - 1 = omega arith in
       rw (at, next, left) (sym (one-register t buffer (3 + 2 * i) (start + i) (quantity - i) w (omega arith) e))
-
-  pub registers-end : quantity ≤ i → registers_left t buffer (3 + 2 * i) (start + i) (quantity - i) ≡ buffer
-  registers-end h = let none : quantity - i ≡ 0 = omega arith in rw none

@@ -9,12 +9,13 @@ ghost use Rattle.registers.specs.Register.{registers_from};
 ghost use Rattle.registers.specs.Faults.{read_fault};
 ghost use Rattle.modbus.specs.Outcome.{top_bit_set, exception_reply};
 ghost use Rattle.modbus.specs.Rules.{read_reply, reading, writing, writing_several, looping_back, obeying, ours, acted_within};
-ghost use Rattle.modbus.specs.Promise.{Ready, Sends, Gives};
+ghost use Rattle.modbus.specs.Promise.{Ready, Sends, Gives, Puts, Serves};
 
 use numbers::{LEAST_BUFFER, NONE, Refusal};
 use registers::COUNT_PLACE;
 
-// What a call hands back: the number, 0 for none, and the length of the reply.
+// What a call hands back: the number, 0 for none, and the length of the reply. An exception is sent together with its number, and the
+// clauses of the C face read both, so this is no `Result`.
 #[derive(Clone, Copy)]
 pub struct Answered {
     pub number: u8,
@@ -24,7 +25,7 @@ pub struct Answered {
 // The bytes at the front of every message: its address and its function.
 const HEAD_LENGTH: usize = 2;
 
-// Functions.
+// Functions. They are bytes and no enum, since one match on a byte answers every other function, too.
 const READ_REGISTERS: u8 = 0x03;
 
 pub const WRITE_REGISTER: u8 = 0x06;
@@ -39,11 +40,7 @@ pub const WRITE_SEVERAL: u8 = 0x10;
 fn top_bit_set(function: u8) -> u8
     ensures { result ≡ top_bit_set function }
 {
-    if function < 0x80 {
-        function + 0x80
-    } else {
-        function
-    }
+    function | 0x80
 }
 
 // The exception that goes with a number: 31, 32 and 33 are exceptions 1, 2 and 3.
@@ -60,19 +57,12 @@ fn exception(reply: &mut [u8], body: &[u8], refusal: Refusal) -> Answered
 }
 
 // The request again, or its front.
-fn echo(reply: &mut [u8], body: &[u8]) -> Answered
+fn echo(reply: &mut [u8], body: &[u8]) -> usize
     requires { length body.now ≤ length reply.old }
-    ensures { Sends none body.now result reply.old reply.new }
+    ensures { Puts body.now result reply.old reply.new }
 {
-    let mut i = 0;
-    while i < body.len() {
-        reply[i] = body[i];
-        i += 1;
-    }
-    Answered {
-        number: NONE,
-        len: i,
-    }
+    reply[..body.len()].copy_from_slice(body);
+    body.len()
 }
 
 // ---- 03H: a register to start from and a quantity
@@ -83,20 +73,18 @@ fn put_registers(table: &[i32], reply: &mut [u8], start: u16, quantity: u16)
     ensures { reply.new
         ≡ sets reply.old 3 (registers_from table.now start quantity) }
 {
-    let mut i = 0;
-    while i < quantity {
-        let register = registers::register_at(table, start + i);
-        let at = 3 + 2 * (i as usize);
-        reply[at] = (register / 256) as u8;
-        reply[at + 1] = (register % 256) as u8;
-        i += 1;
+    for i in 0..quantity {
+        let [high, low] = registers::register_at(table, start + i).to_be_bytes();
+        let at = 3 + 2 * usize::from(i);
+        reply[at] = high;
+        reply[at + 1] = low;
     }
 }
 
 // The reply to a request to read that meets no fault.
-fn send_registers(table: &[i32], reply: &mut [u8], body: &[u8]) -> Answered
+fn send_registers(table: &[i32], reply: &mut [u8], body: &[u8]) -> usize
     requires { (least_buffer ≤ length reply.old) × (read_fault body.now ≡ none) }
-    ensures { Sends none (read_reply table.now body.now)
+    ensures { Puts (read_reply table.now body.now)
         result reply.old reply.new }
 {
     let start = registers::first_word(body);
@@ -105,79 +93,81 @@ fn send_registers(table: &[i32], reply: &mut [u8], body: &[u8]) -> Answered
     reply[1] = body[1];
     reply[2] = (2 * quantity) as u8;
     put_registers(table, reply, start, quantity);
-    let len = 3 + 2 * (quantity as usize);
-    Answered { number: NONE, len }
+    3 + 2 * usize::from(quantity)
 }
 
 // Registers are read.
-fn read(table: &[i32], reply: &mut [u8], body: &[u8]) -> Answered
-    requires { Ready reply.old body.now }
-    ensures { Gives (reading table.now body.now)
+fn read(table: &[i32], reply: &mut [u8], body: &[u8]) -> Result<usize, Refusal>
+    requires { least_buffer ≤ length reply.old }
+    ensures { Serves (reading table.now body.now) body.now
         result reply.old reply.new table.now }
 {
-    if let Err(refusal) = registers::read_fault(body) {
-        return exception(reply, body, refusal);
-    }
-    send_registers(table, reply, body)
+    registers::read_fault(body)?;
+    Ok(send_registers(table, reply, body))
 }
 
 // ---- 06H: a register and a value
 
 // A register is written.
-fn write(table: &mut [i32], reply: &mut [u8], body: &[u8]) -> Answered
-    requires { Ready reply.old body.now }
-    ensures { Gives (writing table.old body.now)
+fn write(table: &mut [i32], reply: &mut [u8], body: &[u8]) -> Result<usize, Refusal>
+    requires { least_buffer ≤ length reply.old }
+    ensures { Serves (writing table.old body.now) body.now
         result reply.old reply.new table.new }
 {
-    if let Err(refusal) = writes::write_one(table, body) {
-        return exception(reply, body, refusal);
-    }
-    echo(reply, body)
+    writes::write_one(table, body)?;
+    Ok(echo(reply, body))
 }
 
 // ---- 08H: a test code and data
 
 // The request comes back.
-fn loop_back(reply: &mut [u8], body: &[u8]) -> Answered
-    requires { Ready reply.old body.now }
-    ensures { (t : List ℤ) → Gives (looping_back t body.now)
+fn loop_back(reply: &mut [u8], body: &[u8]) -> Result<usize, Refusal>
+    requires { least_buffer ≤ length reply.old }
+    ensures { (t : List ℤ) → Serves (looping_back t body.now) body.now
         result reply.old reply.new t }
 {
-    if let Err(refusal) = registers::loopback_fault(body) {
-        return exception(reply, body, refusal);
-    }
-    echo(reply, body)
+    registers::loopback_fault(body)?;
+    Ok(echo(reply, body))
 }
 
 // ---- 10H: a register to start from, a quantity, a byte count, and the values of the registers
 
 // Several registers are written.
-fn write_several(table: &mut [i32], reply: &mut [u8], body: &[u8]) -> Answered
-    requires { Ready reply.old body.now }
-    ensures { Gives (writing_several table.old body.now)
+fn write_several(table: &mut [i32], reply: &mut [u8], body: &[u8]) -> Result<usize, Refusal>
+    requires { least_buffer ≤ length reply.old }
+    ensures { Serves (writing_several table.old body.now) body.now
         result reply.old reply.new table.new }
 {
-    if let Err(refusal) = writes::write_several(table, body) {
-        return exception(reply, body, refusal);
-    }
-    echo(reply, &body[..COUNT_PLACE])
+    writes::write_several(table, body)?;
+    Ok(echo(reply, &body[..COUNT_PLACE]))
 }
 
 // ---- any message
 
-// The function decides.
+// The function decides what is done.
+fn serve(table: &mut [i32], reply: &mut [u8], body: &[u8]) -> Result<usize, Refusal>
+    requires { Ready reply.old body.now }
+    ensures { Serves (obeying table.old body.now) body.now
+        result reply.old reply.new table.new }
+{
+    match body[1] {
+        READ_REGISTERS => read(&table[..], reply, body),
+        WRITE_REGISTER => write(table, reply, body),
+        LOOPBACK => loop_back(reply, body),
+        WRITE_SEVERAL => write_several(table, reply, body),
+        _ => Err(Refusal::UnknownFunction),
+    }
+}
+
+// A message is served, or answered by the exception of its refusal.
 fn obey(table: &mut [i32], reply: &mut [u8], body: &[u8]) -> Answered
     requires { Ready reply.old body.now }
     ensures { Gives (obeying table.old body.now)
         result reply.old reply.new table.new }
 {
-    let function = body[1];
-    match function {
-        READ_REGISTERS => read(&table[..], reply, body),
-        WRITE_REGISTER => write(table, reply, body),
-        LOOPBACK => loop_back(reply, body),
-        WRITE_SEVERAL => write_several(table, reply, body),
-        _ => exception(reply, body, Refusal::UnknownFunction),
+    match serve(table, reply, body) {
+        Ok(len) => Answered { number: NONE, len },
+        Err(refusal) => exception(reply, body, refusal),
     }
 }
 

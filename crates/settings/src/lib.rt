@@ -16,10 +16,7 @@ const VALUE_PLACE: usize = 4;
 fn behind(body: &[u8], place: usize) -> &[u8]
     ensures { result.now ≡ drop place body.now }
 {
-    if body.len() < place {
-        return &body[..0];
-    }
-    &body[place..]
+    body.get(place..).unwrap_or_default()
 }
 
 // The bytes of data that a message brings to be written.

@@ -5,4 +5,4 @@ use Rattle.modbus.proofs.exception.Goals as goal
 
 pub returns : goal.returns
 unfolding exception_reply
-returns c = record { given = refl; len = refl; sent = rw c.top_bit_set.ensures }
+returns c = record { given = c.number-number.ensures; len = refl; sent = rw (c.top_bit_set.ensures, c.number-number.ensures) }

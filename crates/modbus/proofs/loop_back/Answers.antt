@@ -1,24 +1,20 @@
--- A fault is answered by its exception, else the request comes back.
-use Rattle.std.proofs.Common.{refl, sym, ◌∙◌, rules, arith}
-use Rattle.registers.proofs.Faults.{numbered_of, loopback-numbered, loopback-accepted}
+-- A fault is refused, else the request comes back.
+use Rattle.std.proofs.Common.{refl, sym, arith}
+use Rattle.std.proofs.lemmas.Result.{err_from_is_err_and}
+use Rattle.registers.proofs.Faults.{loopback-numbered, loopback-accepted}
 use Rattle.modbus.specs.Rules.{looping_back}
 use Rattle.modbus.proofs.Acting.{refused, accepted}
 use Rattle.modbus.proofs.loop_back.Goals as goal
 
-pub exception-requires : goal.exception-requires
-exception-requires c =
-    (search rules, numbered_of (loopback-numbered _) c.loopback_fault-fault.ensures c.if-fault-ne-NONE.true)
-
-pub returns-then-fault-ne-NONE : goal.returns-then-fault-ne-NONE
+pub returns-in_err-loopback_fault : goal.returns-in_err-loopback_fault
 unfolding looping_back
-returns-then-fault-ne-NONE c t =
-    refused _ _ _ _ c.loopback_fault-fault.ensures c.if-fault-ne-NONE.true refl c.exception.ensures
+returns-in_err-loopback_fault c t =
+    let given = err_from_is_err_and c.from_residual.result c.from_residual.ensures.1 in
+    rw (given.1, given.2) (refused _ t _ _ (loopback-numbered _) c.in_err-loopback_fault.ensures refl)
 
 pub echo-requires : goal.echo-requires
-echo-requires c =
-    let six = loopback-accepted _ (sym c.loopback_fault-fault.ensures ∙ c.if-fault-ne-NONE.false) in omega arith
+echo-requires c = let six = loopback-accepted _ (sym c.in_ok-loopback_fault.ensures) in omega arith
 
 pub returns : goal.returns
 unfolding looping_back
-returns c t =
-    accepted _ _ _ _ c.loopback_fault-fault.ensures c.if-fault-ne-NONE.false (record { sends = c.echo.ensures; table = refl })
+returns c t = accepted _ t _ _ c.in_ok-loopback_fault.ensures c.echo.ensures refl refl

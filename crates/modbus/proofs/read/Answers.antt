@@ -1,18 +1,17 @@
--- A fault is answered by its exception, else the registers are sent.
-use Rattle.std.proofs.Common.{refl, rules}
-use Rattle.registers.proofs.Faults.{numbered_of, read-numbered}
+-- A fault is refused, else the registers are sent.
+use Rattle.std.proofs.Common.{refl}
+use Rattle.std.proofs.lemmas.Result.{err_from_is_err_and}
+use Rattle.registers.proofs.Faults.{read-numbered}
 use Rattle.modbus.specs.Rules.{reading}
 use Rattle.modbus.proofs.Acting.{refused, accepted}
 use Rattle.modbus.proofs.read.Goals as goal
 
-pub exception-requires : goal.exception-requires
-exception-requires c = (search rules, numbered_of (read-numbered _) c.read_fault-fault.ensures c.if-fault-ne-NONE.true)
-
-pub returns-then-fault-ne-NONE : goal.returns-then-fault-ne-NONE
+pub returns-in_err-read_fault : goal.returns-in_err-read_fault
 unfolding reading
-returns-then-fault-ne-NONE c = refused _ _ _ _ c.read_fault-fault.ensures c.if-fault-ne-NONE.true refl c.exception.ensures
+returns-in_err-read_fault c =
+    let given = err_from_is_err_and c.from_residual.result c.from_residual.ensures.1 in
+    rw (given.1, given.2) (refused _ _ _ _ (read-numbered _) c.in_err-read_fault.ensures refl)
 
 pub returns : goal.returns
 unfolding reading
-returns c =
-    accepted _ _ _ _ c.read_fault-fault.ensures c.if-fault-ne-NONE.false (record { sends = c.send_registers.ensures; table = refl })
+returns c = accepted _ _ _ _ c.in_ok-read_fault.ensures c.send_registers.ensures refl refl

@@ -1,5 +1,5 @@
 -- Three stores, and the registers behind them, are the reply at the buffer's front.
-use Rattle.std.proofs.Common.{ℕ, List, ◌*◌, refl, ap₂, ◌∙◌, get_or, set, length-set, arith}
+use Rattle.std.proofs.Common.{ℕ, List, ◌*◌, ap₂, ◌∙◌, get_or, set, length-set, arith}
 use Rattle.std.proofs.lemmas.List.Edits.{sets}
 use Rattle.registers.specs.Register.{registers_from}
 use Rattle.registers.specs.Faults.{first_word, second_word}
@@ -33,7 +33,6 @@ returns c =
     let a = c.args in
     let head : ℕ → List ℕ = λ (n : ℕ). set (set (set a.reply.now 0 (get_or a.body.now 0 0)) 1 (get_or a.body.now 1 0)) 2 (2 * n) in
     record {
-      given = refl;
       len = omega (arith, length-registers a.table.now (first_word a.body.now) (second_word a.body.now));
       sent = c.put_registers.ensures ∙ ap₂ (λ (s n : ℕ). sets (head n) 3 (registers_from a.table.now s n)) start quantity;
     }

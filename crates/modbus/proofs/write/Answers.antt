@@ -1,28 +1,25 @@
--- A fault, which leaves the table, is answered by its exception, else the item has its value and the request comes back.
-use Rattle.std.proofs.Common.{sym, ◌∙◌, rules, arith}
-use Rattle.registers.proofs.Faults.{numbered_of}
+-- A fault, which leaves the table, is refused, else the item has its value and the request comes back.
+use Rattle.std.proofs.Common.{refl, sym, arith}
+use Rattle.std.proofs.lemmas.Result.{err_from_is_err_and}
+use Rattle.numbers.proofs.Refusals.{refusal-met}
 use Rattle.writes.proofs.Faults.{left-none, left-all, write-numbered, write-long}
 use Rattle.modbus.specs.Rules.{writing}
 use Rattle.modbus.proofs.Acting.{refused, accepted}
 use Rattle.modbus.proofs.write.Goals as goal
 
-pub exception-requires : goal.exception-requires
-exception-requires c = (search rules, numbered_of (write-numbered _) c.write_one-fault.ensures.given c.if-fault-ne-NONE.true)
-
-pub returns-then-fault-ne-NONE : goal.returns-then-fault-ne-NONE
+pub returns-in_err-write_one : goal.returns-in_err-write_one
 unfolding writing
-returns-then-fault-ne-NONE c =
-    let w = c.write_one-fault.ensures in
-    refused _ _ _ _ w.given c.if-fault-ne-NONE.true (left-none _ _ _ w c.if-fault-ne-NONE.true) c.exception.ensures
+returns-in_err-write_one c =
+    let w = c.in_err-write_one.ensures in
+    let given = err_from_is_err_and c.from_residual.result c.from_residual.ensures.1 in
+    rw (given.1, given.2) (refused _ _ _ _ (write-numbered _) w.given (left-none _ _ _ w (refusal-met _)))
 
 -- a request that meets no fault is as long as it must be
 pub echo-requires : goal.echo-requires
-echo-requires c =
-    let six = write-long c.args.body.now (sym c.write_one-fault.ensures.given ∙ c.if-fault-ne-NONE.false) in omega arith
+echo-requires c = let six = write-long c.args.body.now (sym c.in_ok-write_one.ensures.given) in omega arith
 
 pub returns : goal.returns
 unfolding writing
 returns c =
-    let w = c.write_one-fault.ensures in
-    accepted _ _ _ _ w.given c.if-fault-ne-NONE.false
-    (record { sends = c.echo.ensures; table = left-all _ _ _ w c.if-fault-ne-NONE.false })
+    let w = c.in_ok-write_one.ensures in
+    accepted _ _ _ _ w.given c.echo.ensures refl (left-all _ _ _ w refl)
