@@ -1,5 +1,6 @@
 -- The decimal point chosen on site: what is claimed in specs/Point.antt.
 -- Assumes nothing.
+use Rattle.std.specs.Prelude.{Ok}
 use mathlib.Core.Path.{◌≡◌, refl, sym, ap, ◌∙◌}
 use mathlib.Core.Logic.{◌≢◌}
 use mathlib.Core.Bool.{Bool, true, false, cond}
@@ -29,7 +30,6 @@ use Rattle.text.proofs.RoundTrip.{demand-2}
 use Rattle.text.proofs.Texts.{fitting, written-length}
 use Rattle.phases.specs.Phases as phases
 use Rattle.block.specs.Block.{most_kept, block_item, data_characters, block_number, block_value, Judges}
-use Rattle.block.specs.declared.Verdict.TheVariants.{Store}
 use Rattle.block.proofs.Laws.{few-decimals, block-stores}
 use Rattle.block.proofs.Cases as block
 use Rattle.rkc.specs.declared.Link.{Link}
@@ -77,7 +77,7 @@ module _ (t : List ℤ) (i bcc : ℕ) (g : good_table t ≡ true) (w : (item_at 
   unfolding answered
   trip = reads-back t i (xu_of t) g (writable-listed i w) (few-xu t)
 
-  verdict : Judges (xu_of t) false bcc most_kept kept bcc (Store i (entry t i))
+  verdict : Judges (xu_of t) false bcc most_kept kept bcc (Ok (record { place = i; value = entry t i }))
   unfolding answered
   verdict =
       block.stored
