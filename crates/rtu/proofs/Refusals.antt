@@ -3,9 +3,9 @@
 use mathlib.Core.Path.{◌≡◌}
 use mathlib.Core.Bool.{Bool, ◌&&◌}
 use mathlib.Core.List.{List}
-use Prim.Native.Nat.{ℕ, ◌≤◌, ◌<◌}
+use Prim.Native.Nat.{ℕ, ◌≤◌}
 use native.Mathlib.Omega.{arith}
-use borrow.Author.Tests.{leb-true, le-leb, lt-leb}
+use borrow.Author.Tests.{leb-true, le-leb}
 use lib.Dec.{leb}
 use lib.ListN.{length}
 use Rattle.numbers.specs.Numbers.{none, unless}
@@ -15,14 +15,6 @@ use Rattle.crc.specs.Crc.{is_right}
 use Rattle.rtu.specs.Frame.{wrong_frame_length, wrong_crc, shortest, longest, frame_fault}
 
 module _ (frame : List ℕ) where
-  pub frame-short : length frame < shortest → frame_fault frame ≡ wrong_frame_length
-  unfolding frame_fault
-  frame-short h = rw (lt-leb shortest (length frame) h)
-
-  pub frame-long : longest < length frame → frame_fault frame ≡ wrong_frame_length
-  unfolding frame_fault
-  frame-long h = rw (le-leb shortest (length frame) (omega arith), lt-leb (length frame) longest h)
-
   pub frame-crc : shortest ≤ length frame → length frame ≤ longest → {b : Bool} → b ≡ is_right frame
       → frame_fault frame ≡ unless b wrong_crc
   unfolding frame_fault

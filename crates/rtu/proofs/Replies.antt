@@ -1,12 +1,13 @@
 -- What comes of a frame, as a call, and a reply that is sealed.
 -- Assumes nothing.
-use mathlib.Core.Path.{◌≡◌, refl, sym, ap₂, ◌∙◌}
+use mathlib.Core.Path.{◌≡◌, refl, sym, ap, ap₂, subst, ◌∙◌}
 use mathlib.Core.List.{List}
 use Prim.Native.Nat.{ℕ, ◌+◌, ◌≤◌}
 use native.Mathlib.Omega.{arith}
 use lib.IntN.{ℤ}
 use lib.ListN.{length}
 use lib.Seq.{sets, length-sets}
+use Rattle.std.specs.Prelude.{Option, Some, unwrap_or}
 use Rattle.numbers.specs.Numbers.{none}
 use Rattle.crc.specs.Crc.{framed, body_of, sealed, sealed_length, Seals}
 use Rattle.crc.proofs.Framed.{length-framed}
@@ -41,6 +42,18 @@ module _ (call : Call) (frame : List ℕ) where
   unfolding acted_on
   frame-reply-short =
       reply-bound framed 255 (λ body h. omega (arith, length-framed body)) call (frame_fault frame) (body_of frame)
+
+-- ---- a reply that is sealed
+
+-- the buffer is as long as it was
+pub same-length : {o : Outcome} {a : Answered} {before mid : List ℕ} {left : List ℤ} → Gives o a before mid left
+    → length mid ≡ length before
+same-length {o} {before = before} g = ap length g.sends.sent ∙ length-sets before 0 o.reply
+
+-- the length that sealing hands back
+pub sealed_to : {before after : List ℕ} {n len : ℕ} {r : Option ℕ} → r ≡ Some len → Seals before n after (unwrap_or r 0)
+    → Seals before n after len
+sealed_to {before} {after} {n} e = subst (λ (r : Option ℕ). Seals before n after (unwrap_or r 0)) e
 
 -- a message whose reply was sealed
 pub gives-sealed : {o : Outcome} {a : Answered} {before mid after : List ℕ} {left : List ℤ} {len : ℕ} → Gives o a before mid left

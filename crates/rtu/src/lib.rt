@@ -20,18 +20,17 @@ const SHORTEST: usize = 4;
 const LONGEST: usize = 256;
 
 // The frame's fault.
+#[tactic(auto, unfolding(crate::specs::Frame::frame_fault))]
 pub fn frame_fault(frame: &[u8]) -> Result<(), Refusal>
     ensures { number_given result ≡ frame_fault frame.now }
 {
-    let length = frame.len();
-    match length {
-        SHORTEST..=LONGEST => if crc::is_right(frame) {
-            Ok(())
-        } else {
-            Err(Refusal::WrongCrc)
-        },
-        _ => Err(Refusal::WrongFrameLength),
+    if !(SHORTEST..=LONGEST).contains(&frame.len()) {
+        return Err(Refusal::WrongFrameLength);
     }
+    if !crc::is_right(frame) {
+        return Err(Refusal::WrongCrc);
+    }
+    Ok(())
 }
 
 // The caller's fault, or else the frame's.

@@ -1,5 +1,5 @@
 -- The message rules are handed the frame's body, and what they reply is sealed.
-use Rattle.std.proofs.Common.{◌≡◌, ◌≤◌, List, ℕ, length, arith}
+use Rattle.std.proofs.Common.{◌∙◌, ◌≡◌, ◌≤◌, List, ℕ, length, arith, le-leb}
 use Rattle.numbers.specs.Numbers.{none}
 use Rattle.crc.specs.Crc.{framed, body_of}
 use Rattle.modbus.proofs.Acting.{gives-by, within-room}
@@ -9,7 +9,7 @@ use Rattle.call.proofs.Faults.{not-refused, is-fine}
 use Rattle.call.proofs.Answered.{gives-silent}
 use Rattle.rtu.specs.Frame.{frame_fault}
 use Rattle.rtu.proofs.Refusals.{frame-has-body}
-use Rattle.rtu.proofs.Replies.{gives-sealed}
+use Rattle.rtu.proofs.Replies.{same-length, sealed_to, gives-sealed}
 use Rattle.rtu.proofs.answer.Goals as goal
 
 -- the frame has a body, and the buffer has room
@@ -26,8 +26,16 @@ pub returns-then-answered-eq0 : goal.returns-then-answered-eq0
 returns-then-answered-eq0 c =
     gives-silent framed (gives-by (within-room _ _ _ _ (has_room _ _ c.requires)) c.respond-answered.ensures) c.if-answered-eq0.true
 
+pub unwrap-len-requires : goal.unwrap-len-requires
+unwrap-len-requires c =
+    let wide = has_room _ _ c.requires in
+    let short = reply-short c.args.table.now c.args.address (body_of c.args.frame.now) in
+    let g = gives-by (within-room _ _ _ _ wide) c.respond-answered.ensures in
+    c.seal.ensures.room ∙ le-leb _ _ (omega (arith, same-length g, g.sends.len))
+
 pub returns : goal.returns
 returns c =
     let wide = has_room _ _ c.requires in
     let short = reply-short c.args.table.now c.args.address (body_of c.args.frame.now) in
-    gives-sealed (gives-by (within-room _ _ _ _ wide) c.respond-answered.ensures) (omega arith) c.if-answered-eq0.false c.seal-len.ensures
+    gives-sealed (gives-by (within-room _ _ _ _ wide) c.respond-answered.ensures) (omega arith) c.if-answered-eq0.false
+    (sealed_to c.unwrap-len.ensures c.seal.ensures.frame)

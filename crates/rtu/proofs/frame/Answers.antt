@@ -1,9 +1,11 @@
 -- A refusal leaves all, and any other frame is answered.
+use Rattle.std.proofs.Common.{refl, sym, ◌∙◌}
+use Rattle.numbers.proofs.Refusals.{refusal-met}
 use Rattle.rtu.proofs.Demands.{acts-refused, acts-answered}
 use Rattle.rtu.proofs.frame.Goals as goal
 
-pub returns-then-number-ne-NONE : goal.returns-then-number-ne-NONE
-returns-then-number-ne-NONE c = acts-refused _ _ c.refusal-number.ensures c.if-number-ne-NONE.true
+pub returns-in-Err : goal.returns-in-Err
+returns-in-Err c = acts-refused _ _ (c.number.ensures ∙ c.in-Err.ensures) (λ z. refusal-met _ (sym c.number.ensures ∙ z))
 
 pub returns : goal.returns
-returns c = acts-answered _ _ c.refusal-number.ensures c.if-number-ne-NONE.false c.answer.ensures
+returns c = acts-answered _ _ c.in_default.ensures refl c.answer.ensures
