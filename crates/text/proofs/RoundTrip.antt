@@ -108,7 +108,7 @@ module _ (width d size : ℕ) (wide : least_width ≤ width) (few : d ≤ most_d
       let k = room width d false in
       let r = enough-room width d false wide few in
       let l = text-length width d false size wide few in
-      sym (without-minus d (pointed d (digits k size)) (omega arith) (no_minus d k size r.0))
+      sym (without-minus d (pointed d (digits k size)) (no_minus d k size r.0))
       ∙ pointed-says false k size h d r.0
 
 pub demand-2 : Demand2

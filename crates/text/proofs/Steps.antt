@@ -1,17 +1,17 @@
 -- What a turn of each loop over characters, and each call of the reading, tells of the definitions.
 -- Assumes nothing.
-use mathlib.Core.Path.{◌≡◌, refl, sym, ◌∙◌}
+use mathlib.Core.Path.{◌≡◌, refl, sym}
 use mathlib.Core.Bool.{Bool, true, false, cond, ◌&&◌, and-false}
 use mathlib.Core.List.{List, [], ◌∷◌, ◌++◌}
 use Prim.Native.Nat.{ℕ, suc, ◌+◌, ◌-◌, ◌*◌, ◌/◌, ◌^◌, ◌<◌, ◌≤◌}
 use native.Mathlib.Nat.{zero-add, pow-le-pow_right, mul-le-mul_left, div-le_self}
+use native.Mathlib.Numerals.{add-one}
 use native.Mathlib.Omega.{arith}
 use borrow.Author.Tests.{eq-eqb, ne_eqb, le-leb}
 use lib.Dec.{leb, eqb}
-use lib.ListN.{length, get_or, drop, length-append, drop_of_length-le}
+use lib.ListN.{length, get_or, drop, length-append}
 use lib.Pow.{pow-add}
 use lib.Seq.{drop-cons}
-use mir.Val.{bool_byte}
 use Rattle.std.specs.Prelude.{Some, None, Ok, Err}
 use Rattle.numbers.specs.declared.Refusal.TheVariants.{NoNumber}
 use Rattle.sign.specs.Sign.{signed}
@@ -23,13 +23,13 @@ use Rattle.text.proofs.Numerals.{all_append, number_append, number-below}
 
 -- ---- one character
 
+pub point-here : (c : ℕ) (cs : List ℕ) → c ≡ point → point_at (c ∷ cs) ≡ 0
+point-here c cs e = rw (eq-eqb c point e)
+
+pub point-later : (c : ℕ) (cs : List ℕ) → (c ≡ point → ⊥) → point_at (c ∷ cs) ≡ point_at cs + 1
+point-later c cs e = rw (ne_eqb c point e) (sym (add-one (point_at cs)))
+
 module _ (cs : List ℕ) (i : ℕ) (h : i < length cs) where
-  pub point-here : get_or cs i 0 ≡ point → point_at (drop i cs) ≡ 0
-  point-here e = rw (drop-cons cs i 0 h, eq-eqb _ _ e)
-
-  pub point-later : (get_or cs i 0 ≡ point → ⊥) → point_at (drop i cs) ≡ suc (point_at (drop (suc i) cs))
-  point-later e = rw (drop-cons cs i 0 h, ne_eqb _ _ e)
-
   pub digit-here : (n : ℕ) → is_digit (get_or cs i 0) ≡ true
       → digits_from n (drop i cs) ≡ digits_from (n * 10 + (get_or cs i 0 - zero_digit)) (drop (suc i) cs)
   digit-here n e = rw (drop-cons cs i 0 h, e)
@@ -105,32 +105,11 @@ point-within (c ∷ cs) =
     let h = point-within cs in
     chosen (λ (n : ℕ). n ≤ suc (length cs)) (eqb c point) (λ e. omega arith) (λ e. omega arith)
 
--- where there is no point, nothing stands in its place or after it
-pub nothing-after : (cs : List ℕ) → length cs ≤ point_at cs → drop (point_at cs) cs ≡ drop (suc (point_at cs)) cs
-nothing-after cs h = drop_of_length-le cs h ∙ sym (drop_of_length-le cs {i = suc (point_at cs)} (omega arith))
-
--- the first character is the minus
-abbrev pub minus_first : List ℕ → Bool
-minus_first cs = eqb (get_or cs 0 0) minus_sign
-
-pub sign-within : (cs : List ℕ) → 0 < length cs → bool_byte (minus_first cs) ≤ length cs
-sign-within cs h = go (minus_first cs)
-  where
-    go : (minus : Bool) → bool_byte minus ≤ length cs
-    go true = omega arith
-    go false = omega arith
-
 -- the number starts after the minus, or with the first character
-pub sign-apart : (d : ℕ) (cs : List ℕ) → 0 < length cs
-    → of_unsigned (minus_first cs) d (drop (bool_byte (minus_first cs)) cs) ≡ of_text d cs
-sign-apart d [] h = absurd (omega arith)
-sign-apart d (c ∷ cs) h = go (eqb c minus_sign)
-  where
-    go : (minus : Bool)
-        → of_unsigned minus d (drop (bool_byte minus) (c ∷ cs)) ≡ cond minus (of_unsigned true d cs) (of_unsigned false d (c ∷ cs))
-    go true = refl
-    go false = refl
+pub with-minus : (d : ℕ) (cs : List ℕ) → get_or cs 0 0 ≡ minus_sign → of_unsigned true d (drop 1 cs) ≡ of_text d cs
+with-minus d [] e = absurd (omega arith)
+with-minus d (c ∷ cs) e = rw (eq-eqb c minus_sign e) refl
 
-pub without-minus : (d : ℕ) (cs : List ℕ) → 0 < length cs → (get_or cs 0 0 ≡ minus_sign → ⊥) → of_unsigned false d cs ≡ of_text d cs
-without-minus d [] h e = absurd (omega arith)
-without-minus d (c ∷ cs) h e = rw (ne_eqb c minus_sign e)
+pub without-minus : (d : ℕ) (cs : List ℕ) → (get_or cs 0 0 ≡ minus_sign → ⊥) → of_unsigned false d cs ≡ of_text d cs
+without-minus d [] e = refl
+without-minus d (c ∷ cs) e = rw (ne_eqb c minus_sign e)

@@ -1,6 +1,6 @@
 -- What a written text is made of: how many digits have room, and how many characters there are.
 -- Assumes nothing.
-use mathlib.Core.Path.{◌≡◌, refl, ap, ◌∙◌}
+use mathlib.Core.Path.{◌≡◌, refl, sym, ap, ◌∙◌}
 use mathlib.Core.Bool.{Bool, true, false}
 use mathlib.Core.List.{List, [], ◌∷◌}
 use Prim.Native.Nat.{ℕ, zero, suc, ◌+◌, ◌-◌, ◌<◌, ◌≤◌}
@@ -11,10 +11,13 @@ use lib.IntN.{ℤ, pos, nat_abs}
 use lib.ListN.{length, set, take, drop, length-append, length-take, length-drop, length-replicate}
 use lib.Seq.{set_split}
 use lib.Signed.{lt_z}
+use Rattle.std.specs.Prelude.{Result, Ok, Err}
+use Rattle.numbers.specs.declared.Refusal.{Refusal}
+use Rattle.numbers.proofs.Refusals.{same-refusal, refusal-met}
 use Rattle.numbers.specs.Numbers.{unless, first_met, unless_met}
 use Rattle.text.specs.Characters.{minus_sign, point}
 use Rattle.text.specs.Numbers.{least_width, most_decimals, does_not_fit, too_many_decimals}
-use Rattle.text.specs.Writing.{digits, pointed, sign_text, points, room, fits, text_of, text, Written, accepted, refusal, write_number, written}
+use Rattle.text.specs.Writing.{digits, pointed, sign_text, points, room, fits, text_of, text, Written, accepted, refusal, write_number, written, written_as}
 use Rattle.text.proofs.Numerals.{digits-length, fewer_digits}
 
 -- ---- room
@@ -109,3 +112,10 @@ module _ (width d : ℕ) (v : ℤ) where
   pub not-fitting : d ≤ most_decimals → fits width d v ≡ false → written width d v ≡ refusal width does_not_fit
   unfolding written write_number
   not-fitting few f = rw (le-leb d most_decimals few, f)
+
+-- what was written tells the outcome
+pub same-written : (width : ℕ) (x y : Result (List ℕ) Refusal) → written_as width x ≡ written_as width y → x ≡ y
+same-written width (Ok cs) (Ok ds) e = ap (λ (w : Written). Ok w.chars) e
+same-written width (Err r) (Err s) e = ap Err (same-refusal (ap (λ (w : Written). w.number) e))
+same-written width (Ok cs) (Err s) e = absurd (refusal-met s (sym (ap (λ (w : Written). w.number) e)))
+same-written width (Err r) (Ok ds) e = absurd (refusal-met r (ap (λ (w : Written). w.number) e))

@@ -2,10 +2,9 @@
 // document 01's.
 #![tactic(auto)]
 
-ghost use Rattle.std.specs.Prelude.{◌≡◌, false, ◌+◌, ◌-◌, ◌/◌, ◌<◌, ◌≤◌, ◌^◌, length};
-ghost use Rattle.sign.specs.Sign.{made};
-ghost use Rattle.text.specs.Characters.{is_digit};
-ghost use Rattle.text.specs.Numbers.{width, least_width, most_width, most_decimals};
+ghost use Rattle.std.specs.Prelude.{◌≡◌, false, ◌+◌, ◌-◌, ◌<◌, ◌≤◌, ◌^◌, length, MatchResult};
+ghost use Rattle.numbers.specs.declared.Refusal.TheVariants.{TooManyDecimals};
+ghost use Rattle.text.specs.Numbers.{width, most_decimals};
 ghost use Rattle.text.specs.Reading.{digits_from, of_parts, of_unsigned, point_at, ReadAs};
 ghost use Rattle.text.specs.Writing.{room, text_of, written, written_as};
 
@@ -14,147 +13,110 @@ use numbers::Refusal;
 // How many characters a number has: as many when it is written, at most as many when it is read.
 pub const WIDTH: usize = 6;
 
-// The most that the width can be: so many digits, times ten to the most decimals, are within 32 bits.
-pub const MOST_WIDTH: usize = 6;
+const TENS: [u32; WIDTH + 1] = [1, 10, 100, 1000, 10000, 100000, 1000000];
 
-const MOST_DECIMALS: u8 = 3;
-
-const TENS: [u32; MOST_WIDTH + 1] = [1, 10, 100, 1000, 10000, 100000, 1000000];
-
-// 10 to the power k.
+// 10 to the power k. It is read where `10u32.pow(k)` would multiply.
 fn power(k: usize) -> u32
-    requires { k ≤ most_width }
+    requires { k ≤ width }
     ensures { result ≡ 10 ^ k }
 {
     TENS[k]
+}
+
+// As many decimals as number text can have.
+#[derive(Clone, Copy)]
+struct Decimals {
+    count: usize,
+    ghost few: { count ≤ most_decimals },
+}
+
+impl Decimals {
+    const MOST: u8 = 3;
+
+    fn new(count: u8) -> Result<Decimals, Refusal>
+        ensures { MatchResult result (λ d. d.count ≡ count) (λ r. (r ≡ TooManyDecimals) × (most_decimals < count)) }
+    {
+        if Decimals::MOST < count {
+            return Err(Refusal::TooManyDecimals);
+        }
+        Ok(Decimals {
+            count: usize::from(count),
+        })
+    }
+
+    // How many digits there is room for beside the minus and the point.
+    fn room(self, minus: bool) -> usize
+        ensures { result ≡ room width self.count minus }
+    {
+        WIDTH - usize::from(minus) - usize::from(0 < self.count)
+    }
+}
+
+// The number that these characters write after the digits of `from`, where each of them is a digit.
+fn digits_from(from: u32, chars: &[u8]) -> Option<u32>
+    requires { (length chars.now ≤ width) × (from < 10 ^ (width - length chars.now)) }
+    ensures { result ≡ digits_from from chars.now }
+{
+    let mut n = from;
+    for c in chars {
+        if !c.is_ascii_digit() {
+            return None;
+        }
+        n = n * 10 + u32::from(*c - b'0');
+    }
+    Some(n)
+}
+
+// What the characters before and after the point say. The quotient cuts the fraction off, and the sign comes last, so that the cut is
+// toward zero.
+fn of_parts(minus: bool, decimals: Decimals, whole: &[u8], fraction: &[u8]) -> Result<i32, Refusal>
+    requires { length whole.now + length fraction.now ≤ width }
+    ensures { result ≡ of_parts minus decimals.count whole.now fraction.now }
+{
+    let front = digits_from(0, whole).ok_or(Refusal::NoNumber)?;
+    let n = digits_from(front, fraction).ok_or(Refusal::NoNumber)?;
+    if whole.is_empty() && fraction.is_empty() {
+        return Err(Refusal::NoNumber);
+    }
+    let size = n * power(decimals.count) / power(fraction.len());
+    Ok(sign::make(minus, size))
 }
 
 // How many characters stand before the first point, or in all where there is none.
 fn point_at(chars: &[u8]) -> usize
     ensures { result ≡ point_at chars.now }
 {
-    let mut i = 0;
-    while i < chars.len() {
-        if chars[i] == b'.' {
-            return i;
-        }
-        i += 1;
-    }
-    i
+    chars.iter().position(|c| *c == b'.').unwrap_or(chars.len())
 }
 
-fn is_digit(c: u8) -> bool
-    ensures { result ≡ is_digit c }
-{
-    b'0' <= c && c <= b'9'
-}
-
-// The number that these characters write after the digits of `from`, where each of them is a digit.
-fn digits_from(from: u32, chars: &[u8]) -> Option<u32>
-    requires { (length chars.now ≤ most_width) × (from < 10 ^ (most_width - length chars.now)) }
-    ensures { result ≡ digits_from from chars.now }
-{
-    let mut n = from;
-    let mut i = 0;
-    while i < chars.len() {
-        let c = chars[i];
-        if is_digit(c) {
-            n = n * 10 + (c - b'0') as u32;
-        } else {
-            return None;
-        }
-        i += 1;
-    }
-    Some(n)
-}
-
-// A size over a power of ten. The quotient cuts the fraction off, and the sign comes last, so that the cut is toward zero.
-fn cut_off(minus: bool, size: u32, tens: u32) -> i32
-    requires { (size < 10 ^ (most_width + most_decimals)) × (0 < tens) × (tens ≤ 10 ^ most_width) }
-    ensures { result ≡ made minus (size / tens) }
-{
-    sign::make(minus, size / tens)
-}
-
-// What the characters before and after the point say.
-fn of_parts(minus: bool, decimals: usize, whole: &[u8], fraction: &[u8]) -> Result<i32, Refusal>
-    requires { (decimals ≤ most_decimals) × (length whole.now + length fraction.now ≤ most_width) }
-    ensures { result ≡ of_parts minus decimals whole.now fraction.now }
-{
-    let front = digits_from(0, whole).ok_or(Refusal::NoNumber)?;
-    let n = digits_from(front, fraction).ok_or(Refusal::NoNumber)?;
-    let places = fraction.len();
-    if whole.len() + places == 0 {
-        return Err(Refusal::NoNumber);
-    }
-    let size = n * power(decimals);
-    Ok(cut_off(minus, size, power(places)))
-}
-
-// What the characters after the sign say. This and `read_in` call what comes next in one place, so that it is compiled once.
-fn of_unsigned(minus: bool, decimals: usize, chars: &[u8]) -> Result<i32, Refusal>
-    requires { (decimals ≤ most_decimals) × (length chars.now ≤ most_width) }
-    ensures { result ≡ of_unsigned minus decimals chars.now }
+// What the characters after the sign say. Where there is no point, nothing stands after it.
+fn of_unsigned(minus: bool, decimals: Decimals, chars: &[u8]) -> Result<i32, Refusal>
+    requires { length chars.now ≤ width }
+    ensures { result ≡ of_unsigned minus decimals.count chars.now }
 {
     let point = point_at(chars);
-    let after = if point < chars.len() {
-        point + 1
-    } else {
-        point
-    };
-    of_parts(minus, decimals, &chars[..point], &chars[after..])
+    let fraction = chars.get(point + 1..).unwrap_or(&[]);
+    of_parts(minus, decimals, &chars[..point], fraction)
 }
 
-// What at most `width` characters say of a value with so many decimals.
-fn read_in(width: usize, decimals: u8, chars: &[u8]) -> Result<i32, Refusal>
-    requires { width ≤ most_width }
-    ensures { ReadAs width decimals chars.now result }
-{
-    if decimals > MOST_DECIMALS {
-        return Err(Refusal::TooManyDecimals);
-    }
-    if chars.len() > width {
-        return Err(Refusal::OverSixCharacters);
-    }
-    if chars.len() == 0 {
-        return Err(Refusal::NoNumber);
-    }
-    let minus = chars[0] == b'-';
-    of_unsigned(minus, decimals as usize, &chars[minus as usize..])
-}
-
-// What the characters say of a value with so many decimals. They are lent on anew, so that the compiler hands on where they stand
-// and not where that is written.
+// What the characters say of a value with so many decimals.
 pub fn read(decimals: u8, chars: &[u8]) -> Result<i32, Refusal>
     ensures { ReadAs width decimals chars.now result }
 {
-    read_in(WIDTH, decimals, &chars[..])
-}
-
-// The least size that has no room beside the minus and the point: ten to the places that are left.
-fn limit(width: usize, decimals: u8, minus: bool) -> u32
-    requires { (least_width ≤ width) × (width ≤ most_width) }
-    ensures { result ≡ 10 ^ room width decimals minus }
-{
-    if decimals == 0 {
-        if minus {
-            power(width - 1)
-        } else {
-            power(width)
-        }
-    } else {
-        if minus {
-            power(width - 2)
-        } else {
-            power(width - 1)
-        }
+    let decimals = Decimals::new(decimals)?;
+    if chars.len() > WIDTH {
+        return Err(Refusal::OverSixCharacters);
     }
+    let (minus, digits) = match chars {
+        [b'-', digits @ ..] => (true, digits),
+        digits => (false, digits),
+    };
+    of_unsigned(minus, decimals, digits)
 }
 
 // The digits of a size with the point and no sign, in every place. d0 is its last digit, d1 the one before, and so on.
-fn places(decimals: u8, size: u32) -> [u8; MOST_WIDTH]
-    requires { decimals ≤ most_decimals }
-    ensures { result ≡ text_of most_width decimals false size }
+fn places(decimals: Decimals, size: u32) -> [u8; WIDTH]
+    ensures { result ≡ text_of width decimals.count false size }
 {
     let tens = size / 10;
     let hundreds = tens / 10;
@@ -166,7 +128,7 @@ fn places(decimals: u8, size: u32) -> [u8; MOST_WIDTH]
     let d3 = b'0' + (thousands % 10) as u8;
     let d4 = b'0' + (ten_thousands % 10) as u8;
     let d5 = b'0' + (ten_thousands / 10 % 10) as u8;
-    match decimals {
+    match decimals.count {
         0 => [d5, d4, d3, d2, d1, d0],
         1 => [d4, d3, d2, d1, b'.', d0],
         2 => [d4, d3, d2, b'.', d1, d0],
@@ -175,9 +137,8 @@ fn places(decimals: u8, size: u32) -> [u8; MOST_WIDTH]
 }
 
 // The characters of a size that has room: the minus takes the first place, where such a size has a zero.
-fn layout(minus: bool, decimals: u8, size: u32) -> [u8; MOST_WIDTH]
-    requires { decimals ≤ most_decimals }
-    ensures { result ≡ text_of most_width decimals minus size }
+fn layout(minus: bool, decimals: Decimals, size: u32) -> [u8; WIDTH]
+    ensures { result ≡ text_of width decimals.count minus size }
 {
     let mut chars = places(decimals, size);
     if minus {
@@ -186,26 +147,16 @@ fn layout(minus: bool, decimals: u8, size: u32) -> [u8; MOST_WIDTH]
     chars
 }
 
-// The value with its decimals in `width` characters.
-fn write_in(width: usize, decimals: u8, value: i32) -> Result<[u8; MOST_WIDTH], Refusal>
-    requires { (least_width ≤ width) × (width ≤ most_width) }
-    ensures { written_as most_width result ≡ written width decimals value }
+// The value with its decimals in six characters.
+pub fn write(decimals: u8, value: i32) -> Result<[u8; WIDTH], Refusal>
+    ensures { written_as width result ≡ written width decimals value }
 {
-    if MOST_DECIMALS < decimals {
-        return Err(Refusal::TooManyDecimals);
-    }
-    let minus = sign::less(value, 0);
-    let size = sign::size(value);
-    if size < limit(width, decimals, minus) {
+    let decimals = Decimals::new(decimals)?;
+    let minus = value < 0;
+    let size = value.unsigned_abs();
+    if size < power(decimals.room(minus)) {
         Ok(layout(minus, decimals, size))
     } else {
         Err(Refusal::DoesNotFit)
     }
-}
-
-// The value with its decimals in six characters.
-pub fn write(decimals: u8, value: i32) -> Result<[u8; MOST_WIDTH], Refusal>
-    ensures { written_as width result ≡ written width decimals value }
-{
-    write_in(WIDTH, decimals, value)
 }

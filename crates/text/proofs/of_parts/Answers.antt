@@ -1,73 +1,70 @@
--- The two runs of digits are one number of at most `most_width` digits, so its product and its quotient are those of the
--- definition.
-use Rattle.std.proofs.Common.{◌≡◌, ℕ, ◌+◌, ◌-◌, ◌*◌, ◌/◌, ◌^◌, ◌<◌, ◌≤◌, List, length, sym, ap, ◌∙◌, arith}
-use native.Mathlib.Nat.{one-le-pow, pow-le-pow_right}
+-- The two runs of digits are one number of at most `width` digits, so its product and its quotient are those of the definition.
+use Rattle.std.proofs.Common.{rules, ◌≡◌, ℕ, ◌+◌, ◌-◌, ◌*◌, ◌/◌, ◌^◌, ◌<◌, ◌≤◌, List, length, ap, ◌∙◌, arith, Some, None, Ok}
+use Rattle.std.proofs.lemmas.Result.{err_from_is_err_and}
+use native.Mathlib.Nat.{one-le-pow}
+use Rattle.numbers.specs.declared.Refusal.TheVariants.{NoNumber}
 use Rattle.sign.proofs.Laws.{make-of, same}
-use Rattle.text.specs.Numbers.{most_width}
+use Rattle.text.specs.Numbers.{width}
 use Rattle.text.specs.Reading.{digits_from}
-use Rattle.text.specs.declared.Digits.TheVariants.{Number}
-use Rattle.text.specs.declared.Reading.TheVariants.{Value}
 use Rattle.text.proofs.Numerals.{at_most}
 use Rattle.text.proofs.Steps.{digits-say, found_below, no_fraction, no_whole, number_small, scaled, sized}
 use Rattle.text.proofs.of_parts.Goals as goal
+use Rattle.text.proofs.of_parts.Goals.{else-is_empty-via-then-is_empty+else-is_empty-2, else-is_empty-via-else-is_empty}
 
 pub digits_from-requires : goal.digits_from-requires
-digits_from-requires c =
-    (omega (arith, c.requires.1), one-le-pow (most_width - length c.args.whole.now) 10 (omega arith))
+digits_from-requires c = (omega (arith, c.requires), one-le-pow (width - length c.args.whole.now) 10 (omega arith))
 
-pub returns-in_default : goal.returns-in_default
-returns-in_default c = let s = c.args in no_whole s.minus s.decimals s.whole.now s.fraction.now cc
+pub returns-in_err-front : goal.returns-in_err-front
+returns-in_err-front c =
+    let s = c.args in
+    let given = err_from_is_err_and c.from_residual.result c.from_residual.ensures.1 in
+    let none : digits_from 0 s.whole.now ≡ None = grind arith in
+    let refused : c.in_err-front.field-0.0 ≡ NoNumber = grind arith in
+    rw (given.1, given.2, refused) (no_whole s.minus s.decimals.count s.whole.now s.fraction.now none)
 
 pub digits_from-requires-2 : goal.digits_from-requires-2
 digits_from-requires-2 c =
     let s = c.args in
-    let front = c.in-Number.front in
-    let digits = s.whole.now in
-    let small = found_below 0 0 digits front (omega arith) (sym c.in-Number.ensures) in
-    let places = length s.fraction.now in
-    (omega (arith, c.requires.1), at_most front (0 + length digits) (most_width - places) small (omega (arith, c.requires.1)))
+    let front : digits_from 0 s.whole.now ≡ Some c.in_ok-front.front = grind arith in
+    let small = found_below 0 0 s.whole.now c.in_ok-front.front (omega arith) front in
+    let few = c.requires in
+    (omega arith, at_most c.in_ok-front.front (0 + length s.whole.now) (width - length s.fraction.now) small (omega arith))
 
-pub returns-in_default-digits_from : goal.returns-in_default-digits_from
-returns-in_default-digits_from c =
-    let s = c.args in no_fraction s.minus s.decimals s.whole.now s.fraction.now c.in-Number.front cc
+pub returns-in_err-n : goal.returns-in_err-n
+returns-in_err-n c =
+    let s = c.args in
+    let given = err_from_is_err_and c.from_residual-in_err-n.result c.from_residual-in_err-n.ensures.1 in
+    let front = c.in_ok-front.front in
+    let none : digits_from front s.fraction.now ≡ None = grind arith in
+    let refused : c.in_err-n.field-0.0 ≡ NoNumber = grind arith in
+    rw (given.1, given.2, refused) (no_fraction s.minus s.decimals.count s.whole.now s.fraction.now front none)
 
--- all digits are at most `most_width`
-below : (whole fraction : List ℕ) (front n : ℕ) → length whole + length fraction ≤ most_width
-    → Number front ≡ digits_from 0 whole → Number n ≡ digits_from front fraction → n < 10 ^ most_width
-below whole fraction front n few f a =
-    let small = number_small whole fraction front n (sym f) (sym a) in
-    at_most n (length whole + length fraction) most_width small few
+-- all digits are at most `width`
+below : (whole fraction : List ℕ) (front n : ℕ) → length whole + length fraction ≤ width → digits_from 0 whole ≡ Some front
+    → digits_from front fraction ≡ Some n → n < 10 ^ width
+below whole fraction front n few f a = at_most n (length whole + length fraction) width (number_small whole fraction front n f a) few
 
 pub overflow_mul-size : goal.overflow_mul-size
 overflow_mul-size c =
     let s = c.args in
-    let n = c.in-Number-digits_from.n in
-    let small = below s.whole.now s.fraction.now c.in-Number.front n c.requires.1 c.in-Number.ensures c.in-Number-digits_from.ensures in
-    rw c.power.ensures (omega (arith, scaled most_width n s.decimals small c.requires.0))
+    let front : digits_from 0 s.whole.now ≡ Some c.in_ok-front.front = grind arith in
+    let n : digits_from c.in_ok-front.front s.fraction.now ≡ Some c.in_ok-n.n = grind arith in
+    let small = below s.whole.now s.fraction.now c.in_ok-front.front c.in_ok-n.n c.requires front n in
+    rw c.power.ensures (omega (arith, scaled width c.in_ok-n.n s.decimals.count small s.decimals.few))
 
-pub cut_off-requires : goal.cut_off-requires
-cut_off-requires c =
-    let s = c.args in
-    let n = c.in-Number-digits_from.n in
-    let small = below s.whole.now s.fraction.now c.in-Number.front n c.requires.1 c.in-Number.ensures c.in-Number-digits_from.ensures in
-    let places = length s.fraction.now in
-    let most : places ≤ most_width = omega (arith, c.requires.1) in
-    rw (c.power.ensures, c.power-2.ensures) (
-      scaled most_width n s.decimals small c.requires.0,
-      one-le-pow places 10 (omega arith),
-      pow-le-pow_right {n = 10} (omega arith) most,
-    )
+pub nonzero_div-size : goal.nonzero_div-size
+nonzero_div-size c = rw c.power-2.ensures (one-le-pow (length c.args.fraction.now) 10 (omega arith))
 
 pub returns : goal.returns
 returns c =
     let s = c.args in
-    let front = c.in-Number.front in
-    let n = c.in-Number-digits_from.n in
-    let below = below s.whole.now s.fraction.now front n c.requires.1 c.in-Number.ensures c.in-Number-digits_from.ensures in
+    let front : digits_from 0 s.whole.now ≡ Some c.in_ok-front.front = grind arith in
+    let n : digits_from c.in_ok-front.front s.fraction.now ≡ Some c.in_ok-n.n = grind arith in
+    let small = below s.whole.now s.fraction.now c.in_ok-front.front c.in_ok-n.n c.requires front n in
     let tens = 10 ^ length s.fraction.now in
-    let small = sized most_width n s.decimals tens below c.requires.0 in
-    let cut = rw (c.power.ensures, c.power-2.ensures) at c.cut_off.ensures in
-    let value = make-of s.minus (n * 10 ^ s.decimals / tens) c.cut_off.result (omega arith) cut in
-    ap Value (same c.cut_off.result c.cut_off.type_inv ∙ value)
-    ∙ digits-say s.minus s.decimals s.whole.now s.fraction.now front n (sym c.in-Number.ensures)
-    (sym c.in-Number-digits_from.ensures) c.if-whole-places-eq0.false
+    let size = sized width c.in_ok-n.n s.decimals.count tens small s.decimals.few in
+    let made = rw (c.power.ensures, c.power-2.ensures) at c.make.ensures in
+    let value = make-of s.minus (c.in_ok-n.n * 10 ^ s.decimals.count / tens) c.make.result (omega arith) made in
+    ap Ok (same c.make.result c.make.type_inv ∙ value)
+    ∙ digits-say s.minus s.decimals.count s.whole.now s.fraction.now c.in_ok-front.front c.in_ok-n.n front n
+    (search rules)
