@@ -5,7 +5,7 @@ use mathlib.Core.Bool.{Bool, true, ◌&&◌}
 use mathlib.Core.List.{List}
 use Prim.Native.Nat.{ℕ, ◌+◌, ◌*◌, ◌≤◌, ◌<◌}
 use native.Mathlib.Omega.{arith}
-use borrow.Author.Tests.{eqb-true, eq-eqb, ne_eqb, leb-true, le-leb, lt-leb}
+use borrow.Author.Tests.{eqb-true, eq-eqb, leb-true, le-leb}
 use lib.Dec.{eqb, leb}
 use lib.ListN.{length}
 use Rattle.numbers.specs.Numbers.{none, unless}
@@ -45,19 +45,6 @@ module _ (body : List ℕ) where
       (either_first _ _ Numbered (data-numbered (good_quantity (second_word body)))
       (either_first _ _ Numbered (register-numbered (in_map (first_word body) (second_word body))) none-numbered))
 
-  pub read_length : (length body ≡ body_length → ⊥) → read_fault body ≡ wrong_data
-  unfolding read_fault
-  read_length h = rw (ne_eqb (length body) body_length h)
-
-  pub read_none : second_word body < 1 → length body ≡ body_length → read_fault body ≡ wrong_data
-  unfolding read_fault
-  read_none q h = rw (eq-eqb (length body) body_length h, lt-leb 1 (second_word body) q)
-
-  pub read-many : most_registers < second_word body → length body ≡ body_length → read_fault body ≡ wrong_data
-  unfolding read_fault
-  read-many q h =
-      rw (eq-eqb (length body) body_length h, le-leb 1 (second_word body) (omega arith), lt-leb (second_word body) most_registers q)
-
   pub read-span : 1 ≤ second_word body → second_word body ≤ most_registers → length body ≡ body_length → {b : Bool}
       → b ≡ in_map (first_word body) (second_word body) → read_fault body ≡ unless b wrong_register
   unfolding read_fault
@@ -94,15 +81,6 @@ module _ (body : List ℕ) where
   loopback-numbered =
       either_first _ _ Numbered (data-numbered (right_length body))
       (either_first _ _ Numbered (data-numbered (eqb (first_word body) 0)) none-numbered)
-
-  pub loopback-length : (length body ≡ body_length → ⊥) → loopback_fault body ≡ wrong_data
-  unfolding loopback_fault
-  loopback-length h = rw (ne_eqb (length body) body_length h)
-
-  pub loopback-coded : length body ≡ body_length → {b : Bool} → b ≡ eqb (first_word body) 0
-      → loopback_fault body ≡ unless b wrong_data
-  unfolding loopback_fault
-  loopback-coded h e = rw (eq-eqb (length body) body_length h, ← e) (last-met _)
 
   pub loopback-accepted : loopback_fault body ≡ none → length body ≡ body_length
   unfolding loopback_fault

@@ -21,14 +21,14 @@ const MOST_REGISTERS: u16 = 125;
 pub fn byte_at(body: &[u8], i: usize) -> u8
     ensures { result ≡ get_or body.now i 0 }
 {
-    if i < body.len() { body[i] } else { 0 }
+    body.get(i).copied().unwrap_or(0)
 }
 
 // The number that two bytes make, the high one first.
 pub fn word(high: u8, low: u8) -> u16
     ensures { result ≡ word high low }
 {
-    (high as u16) * 256 + (low as u16)
+    u16::from_be_bytes([high, low])
 }
 
 // The two words behind the function.
@@ -46,21 +46,22 @@ pub fn second_word(body: &[u8]) -> u16
 
 // ---- registers
 
-// A value as a register holds it. 2^32 more leaves its low sixteen bits and is not below zero.
+// A value as a register holds it: its low sixteen bits.
 fn to_register(value: i32) -> u16
     ensures { result ≡ to_register value }
 {
-    (((value as i64) + 4294967296) as u64 % 65536) as u16
+    (value.cast_unsigned() & 0xFFFF) as u16
 }
 
-// The value that a register holds: from 8000H up it is below zero. Turning the circle by half and back tells that without a branch.
+// The value that a register holds: from 8000H up it is below zero.
 pub fn of_register(register: u16) -> i32
     ensures { result ≡ of_register register }
 {
-    ((register as u32 + 32768) % 65536) as i32 - 32768
+    i32::from(register.cast_signed())
 }
 
 // What a register of the map reads.
+#[tactic(auto, unfolding(crate::specs::Register::register_at))]
 pub fn register_at(table: &[i32], register: u16) -> u16
     ensures { result ≡ register_at table.now register }
 {
@@ -76,15 +77,16 @@ pub fn register_at(table: &[i32], register: u16) -> u16
 fn in_map(start: u16, quantity: u16) -> bool
     ensures { result ≡ in_map start quantity }
 {
-    (start as usize) + (quantity as usize) <= items::MAP_SIZE
+    usize::from(start) + usize::from(quantity) <= items::MAP_SIZE
 }
 
 // The fault of a request to read.
+#[tactic(auto, unfolding(crate::specs::Faults::read_fault))]
 pub fn read_fault(body: &[u8]) -> Result<(), Refusal>
     ensures { number_given result ≡ read_fault body.now }
 {
     let quantity = second_word(body);
-    if body.len() != BODY_LENGTH || quantity < 1 || MOST_REGISTERS < quantity {
+    if body.len() != BODY_LENGTH || !(1..=MOST_REGISTERS).contains(&quantity) {
         return Err(Refusal::WrongData);
     }
     if in_map(first_word(body), quantity) {
@@ -97,6 +99,7 @@ pub fn read_fault(body: &[u8]) -> Result<(), Refusal>
 // ---- 08H: a test code and data
 
 // The fault of a loopback.
+#[tactic(auto, unfolding(crate::specs::Faults::loopback_fault))]
 pub fn loopback_fault(body: &[u8]) -> Result<(), Refusal>
     ensures { number_given result ≡ loopback_fault body.now }
 {
@@ -118,16 +121,13 @@ pub const DATA_PLACE: usize = 7;
 const MOST_WRITTEN: u16 = 123;
 
 // Whether length, quantity and byte count are right, and agree.
+#[tactic(auto, unfolding(crate::specs::Faults::right_counts))]
 pub fn right_counts(body: &[u8]) -> bool
     ensures { result ≡ right_counts body.now }
 {
-    if body.len() < DATA_PLACE {
-        return false;
-    }
     let quantity = second_word(body);
-    let count = body[COUNT_PLACE] as usize;
-    (body.len() == DATA_PLACE + count)
-        & (1 <= quantity)
-        & (quantity <= MOST_WRITTEN)
-        & (count == 2 * quantity as usize)
+    let count = usize::from(byte_at(body, COUNT_PLACE));
+    body.len() == DATA_PLACE + count
+        && (1..=MOST_WRITTEN).contains(&quantity)
+        && count == 2 * usize::from(quantity)
 }

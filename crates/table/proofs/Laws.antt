@@ -7,13 +7,12 @@ use mathlib.Core.List.{List, [], ◌∷◌}
 use Prim.Native.Nat.{ℕ, zero, suc, ◌-◌, ◌<◌}
 use native.Mathlib.Nat.{not-suc-le-zero, le_of_suc-le-suc}
 use native.Mathlib.Omega.{arith}
-use borrow.Author.Tests.{eq-eqb, ne_eqb, eqb-true, eqb-false, ltb-true, ltb-false, lt-ltb}
+use borrow.Author.Tests.{eq-eqb, eqb-true, eqb-false, ltb-true, ltb-false, lt-ltb}
 use lib.Dec.{eqb, ltb}
 use lib.IntN.{ℤ, pos}
 use lib.ListN.{get_or, set, length, length-set}
 use lib.Seq.{set_out, get_or-set_same, get_or-set_other, ext_get_or}
 use Rattle.numbers.specs.Numbers.{none, unless}
-use Rattle.numbers.specs.Promise.{Lent}
 use Rattle.numbers.proofs.Tests.{contrary, both, chosen}
 use Rattle.numbers.proofs.Order.{none-met, test-held}
 use Rattle.items.specs.ItemList.{Item, items, listed, item_list, no_item, item_at, from_low_to_high, in_range}
@@ -200,45 +199,16 @@ stored-in-range t i j v r =
 
 -- ---- the firmware's put
 
--- the four ways in which a put ends, by the table's fault as `check` gives it
-module _ (t : List ℤ) (n : ℕ) (v : ℤ) {f : ℕ} (checked : f ≡ table_fault t) where
-  pub put-fault : (f ≡ none → ⊥) → put_number t n v ≡ f
-  unfolding put_number
-  put-fault met = simp (ne_eqb (table_fault t) none (λ z. met (checked ∙ z))) (sym checked)
-
-  module _ (fine : f ≡ none) where
-    pub put-no-item : listed n ≡ false → put_number t n v ≡ no_such_item
-    unfolding put_number
-    put-no-item other = simp (eq-eqb (table_fault t) none (sym checked ∙ fine), other)
-
-    pub put-outside : listed n ≡ true → may_put (n - 1) v ≡ false → put_number t n v ≡ value_outside
-    unfolding put_number
-    put-outside item outside = simp (eq-eqb (table_fault t) none (sym checked ∙ fine), item, outside)
-
-    pub put-inside : listed n ≡ true → may_put (n - 1) v ≡ true → put_number t n v ≡ none
-    unfolding put_number
-    put-inside item inside = simp (eq-eqb (table_fault t) none (sym checked ∙ fine), item, inside)
-
-module _ (t : List ℤ) (n : ℕ) (v : ℤ) where
-  -- a refused put leaves the table as it came; an accepted one stores
-  pub put_refused : {k : ℕ} → put_number t n v ≡ k → (k ≡ none → ⊥) → Lent (put_number t n v) (put_table t n v) k t
-  unfolding put_table
-  put_refused e h = record { given = sym e; left = simp (ne_eqb (put_number t n v) none (λ z. h (sym e ∙ z))) }
-
-  pub put-accepted : put_number t n v ≡ none → Lent (put_number t n v) (put_table t n v) none (stored t (n - 1) v)
-  unfolding put_table
-  put-accepted e = record { given = sym e; left = simp (eq-eqb (put_number t n v) none e) }
-
-  -- a put that meets no number has a value in range
-  accepted-in-range : put_number t n v ≡ none → in_range (n - 1) v ≡ true
-  unfolding put_number
-  accepted-in-range e =
-      let item = unless (listed n) no_such_item in
-      let value = unless (may_put (n - 1) v) value_outside in
-      let after-fault = (none-met (table_fault t) (item ∷ value ∷ []) e).1 in
-      let after-item = (none-met item (value ∷ []) after-fault).1 in
-      let held = test-held _ value_outside (omega arith) (none-met value [] after-item).0 in
-      (both (not (is_alarm_state (n - 1))) (in_range (n - 1) v) held).1
+-- a put that meets no number has a value in range
+accepted-in-range : (t : List ℤ) (n : ℕ) (v : ℤ) → put_number t n v ≡ none → in_range (n - 1) v ≡ true
+unfolding put_number
+accepted-in-range t n v e =
+    let item = unless (listed n) no_such_item in
+    let value = unless (may_put (n - 1) v) value_outside in
+    let after-fault = (none-met (table_fault t) (item ∷ value ∷ []) e).1 in
+    let after-item = (none-met item (value ∷ []) after-fault).1 in
+    let held = test-held _ value_outside (omega arith) (none-met value [] after-item).0 in
+    (both (not (is_alarm_state (n - 1))) (in_range (n - 1) v) held).1
 
 -- a good table stays good after put
 pub good-put : (t : List ℤ) (n : ℕ) (v : ℤ) → good_table t ≡ true → good_table (put_table t n v) ≡ true

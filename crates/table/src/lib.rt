@@ -11,7 +11,7 @@ ghost use Rattle.table.specs.Table.{xu_of, start_number, start_table, answered, 
 
 use numbers::Refusal;
 
-// The places of the alarm states, AA and AB, and of the items that they go by.
+// The places of the alarm states, AA and AB, and of the items that they go by. They index the table: as variants each would be cast.
 const M1: usize = 0;
 
 const AA: usize = 1;
@@ -31,13 +31,11 @@ const XU: usize = 12;
 fn entry_at(table: &[i32], place: usize) -> i32
     ensures { result ≡ entry table.now place }
 {
-    if table.len() <= place {
-        return 0;
-    }
-    table[place]
+    table.get(place).copied().unwrap_or(0)
 }
 
-// An entry takes a value. Nothing happens past the table's end.
+// An entry takes a value. Nothing happens past the table's end. It is written at its index, since what is written through the reference
+// that a slice's `get_mut` lends is not known of the slice.
 fn set_entry(table: &mut [i32], place: usize, value: i32)
     ensures { table.new ≡ set table.old place value }
 {
@@ -52,16 +50,15 @@ fn set_entry(table: &mut [i32], place: usize, value: i32)
 fn is_alarm_state(i: usize) -> bool
     ensures { result ≡ is_alarm_state i }
 {
-    (i == AA) | (i == AB)
+    matches!(i, AA | AB)
 }
 
 // The state of the alarm whose value stands at a place: 1 exactly when M1 is at least that value.
+#[tactic(auto, unfolding(crate::specs::Table::alarm))]
 fn alarm_state(table: &[i32], limit: usize) -> i32
     ensures { result ≡ alarm table.now limit }
 {
-    let measured = entry_at(table, M1);
-    let value = entry_at(table, limit);
-    if value <= measured { 1 } else { 0 }
+    i32::from(entry_at(table, limit) <= entry_at(table, M1))
 }
 
 // Whether AA agrees with M1 and A1, and AB with M1 and A2. Both states are worked out before either is compared, so that the compiler
@@ -75,37 +72,33 @@ fn alarms_agree(table: &[i32]) -> bool
 }
 
 // AA and AB are made true.
+#[tactic(auto, unfolding(crate::specs::Table::alarms_kept))]
 pub fn keep_alarms(table: &mut [i32])
     ensures { table.new ≡ alarms_kept table.old }
 {
-    let first = alarm_state(&table[..], A1);
-    let second = alarm_state(&table[..], A2);
+    let first = alarm_state(table, A1);
+    let second = alarm_state(table, A2);
     set_entry(table, AA, first);
     set_entry(table, AB, second);
 }
 
 // ---- the check
 
-// Whether each entry is in the range of its item. Every entry is looked at, with no way out of the loop, so that the compiler
+// Whether each entry is in the range of its item. Every entry is looked at, with no way out before the last, so that the compiler
 // compares several at once.
 fn all_in_range(table: &[i32]) -> bool
     requires { length table.now ≡ items }
     ensures { result ≡ all_in_range item_list table.now }
 {
-    let lows = items::LOW;
-    let highs = items::HIGH;
-    let mut inside = true;
-    let mut i = 0;
-    while i < items::ITEMS {
-        let value = table[i];
-        inside = inside & (lows[i] <= value) & (value <= highs[i]);
-        i += 1;
-    }
-    inside
+    table.iter().zip(&items::LOW).zip(&items::HIGH).fold(
+        true,
+        |inside, ((value, low), high)| inside & (low <= value) & (value <= high),
+    )
 }
 
 // The table's fault. Alarm states and ranges have one number, so it does not show which is looked at first; with the alarm states first
 // it costs less.
+#[tactic(auto, unfolding(crate::specs::Table::table_fault))]
 pub fn check(table: &[i32]) -> Result<(), Refusal>
     ensures { number_given result ≡ table_fault table.now }
 {
@@ -125,22 +118,20 @@ pub fn check(table: &[i32]) -> Result<(), Refusal>
 // ---- what is done with the table
 
 // Every item takes its start value; a table of another length is left as it is.
+#[tactic(auto, unfolding(crate::specs::Table::start_number, crate::specs::Table::start_table, crate::specs::Table::start_values))]
 pub fn start(table: &mut [i32]) -> Result<(), Refusal>
     ensures { Lent (start_number table.old) (start_table table.old) (number_given result) table.new }
 {
-    if table.len() != items::ITEMS {
-        return Err(Refusal::WrongLength);
+    if table.len() == items::ITEMS {
+        table.copy_from_slice(&items::START[..items::ITEMS]);
+        Ok(())
+    } else {
+        Err(Refusal::WrongLength)
     }
-    let mut i = 0;
-    while i < items::ITEMS {
-        let first = items::START[i];
-        table[i] = first;
-        i += 1;
-    }
-    Ok(())
 }
 
 // What either line answers for an item: its entry.
+#[tactic(auto, unfolding(crate::specs::Table::answered))]
 pub fn answer(table: &[i32], i: usize) -> i32
     ensures { result ≡ answered table.now i }
 {
@@ -148,6 +139,7 @@ pub fn answer(table: &[i32], i: usize) -> i32
 }
 
 // The decimals that XU gives: its entry, and none where that is outside its range, which it is in no good table.
+#[tactic(auto, unfolding(crate::specs::Table::xu_of, items::specs::ItemList::in_range))]
 pub fn xu(table: &[i32]) -> u8
     ensures { result ≡ xu_of table.now }
 {
@@ -161,6 +153,7 @@ pub fn xu(table: &[i32]) -> u8
 
 // An item takes a value, and AA and AB are made true again. Past the table's end nothing happens: if they were made true there too,
 // the compiler would hold M1, A1 and A2 from the table's check on, at each call.
+#[tactic(auto, unfolding(crate::specs::Table::stored))]
 pub fn store(table: &mut [i32], i: usize, value: i32)
     ensures { table.new ≡ stored table.old i value }
 {
@@ -174,18 +167,16 @@ pub fn store(table: &mut [i32], i: usize, value: i32)
 fn may_put(i: usize, value: i32) -> bool
     ensures { result ≡ may_put i value }
 {
-    if is_alarm_state(i) {
-        return false;
-    }
-    items::in_range(i, value)
+    !is_alarm_state(i) && items::in_range(i, value)
 }
 
 // The firmware sets an item, by its number from 1, to any value in its range. An alarm state it cannot set.
+#[tactic(auto, unfolding(crate::specs::Table::put_number, crate::specs::Table::put_table))]
 pub fn put(table: &mut [i32], number: u32, value: i32) -> Result<(), Refusal>
     ensures { Lent (put_number table.old number value)
         (put_table table.old number value) (number_given result) table.new }
 {
-    check(&table[..])?;
+    check(table)?;
     if !items::listed(number) {
         return Err(Refusal::NoSuchItem);
     }
