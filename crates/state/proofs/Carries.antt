@@ -95,7 +95,7 @@ module _ (structure time : ℕ) (t : List ℤ) (h : time < 2 ^ 32) where
   performed-whole l (Both a b) w = two-whole a b
   performed-whole l (More c) w = more-whole l w c
   performed-whole l Ended w = end_whole l w
-  performed-whole l (Quit number) w = in-phase-whole _
+  performed-whole l (Quit refusal) w = in-phase-whole _
   performed-whole l (Poll a b) w = polled-whole (found a b)
   performed-whole l (Send item) w = item-whole (item - 1)
   performed-whole l (Judge c) w = judged-whole l c

@@ -1,4 +1,4 @@
--- The state's bytes: a state comes back whole from its own bytes, which are 24; and what the code's runs of stores lay out.
+-- The state's bytes: a state comes back whole from its own bytes, which are 24; and what the code reads and lays out.
 -- Assumes nothing.
 use mathlib.Core.Path.{◌≡◌, refl, sym, ◌∙◌}
 use mathlib.Core.Bool.{Bool, true, false}
@@ -9,12 +9,12 @@ use native.Mathlib.Nat.{pow-suc}
 use native.Mathlib.Omega.{arith}
 use borrow.Author.Tests.{eq-eqb, ne_eqb}
 use lib.ListN.{length, get_or, take, set, length-append, length-set}
-use lib.Seq.{slice, sets, take_at, drop_at, take_all, get_or-set_other, take-set-le, take-set-lt, drop-set-lt}
+use lib.Seq.{slice, take_at, drop_at, take_all, get_or-set_other, take-set-le, take-set-lt, drop-set-lt}
+use Rattle.std.specs.Int.{from_bool}
 use Rattle.rkc.specs.declared.Link.{Link}
 use Rattle.kept.specs.Bytes.{from_low, low_first}
 use Rattle.rkc.specs.State.{in_phase}
 use Rattle.state.specs.State.{state_bytes, is_marked, mark_byte, fields, unknown_phase, unpacked, packed, HoldsNothing}
-use Rattle.state.proofs.Parts.{sets-append, sets-all}
 
 -- the bytes past the kept characters
 abbrev zeros : List ℕ
@@ -84,15 +84,7 @@ pub own-length : (s : List ℕ) → length s ≡ state_bytes → fields s ≡ un
 unfolding unpacked
 own-length s e = simp (eq-eqb (length s) state_bytes e)
 
--- the five runs of stores that lay a state out, one after the other
-pub laid_out : (l : Link) (m : ℕ) (s s₁ s₂ s₃ s₄ s₅ : List ℕ) → length s ≡ state_bytes → length l.kept ≡ 8 → m ≡ mark_byte l.mark
-    → s₁ ≡ sets s 0 (l.phase ∷ l.item ∷ l.count ∷ l.bcc ∷ [])
-    → s₂ ≡ sets s₁ 4 (m ∷ 0 ∷ 0 ∷ 0 ∷ [])
-    → s₃ ≡ sets s₂ 8 (low_first 4 l.time)
-    → s₄ ≡ sets s₃ 12 l.kept
-    → s₅ ≡ sets s₄ 20 zeros
-    → s₅ ≡ packed l
-unfolding packed
-laid_out l m s s₁ s₂ s₃ s₄ s₅ full eight em e₁ e₂ e₃ e₄ e₅ =
-    rw (e₅, e₄, sets-append l.kept zeros s₃ 12 20 (omega arith), e₃, e₂, e₁, em)
-    (sets-all s (packed l) (full ∙ sym (packed-length l eight)))
+-- a mark's byte is the mark as a number
+pub marked : (m : Bool) → from_bool m ≡ mark_byte m
+marked true = refl
+marked false = refl
