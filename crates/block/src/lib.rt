@@ -14,9 +14,9 @@ pub struct Setting {
 }
 
 // How many characters an identifier has, and how many of a block are kept: the identifier and a number.
-const IDENTIFIER_LENGTH: u8 = 2;
+const IDENTIFIER_LENGTH: usize = 2;
 
-pub const MOST_KEPT: usize = IDENTIFIER_LENGTH as usize + text::WIDTH;
+pub const MOST_KEPT: usize = IDENTIFIER_LENGTH + text::WIDTH;
 
 // The verdict on a block, where XU gives so many decimals: one that was marked or not, with the BCC of its text and ETX, the count of
 // its characters, those that were kept, and the byte in the BCC's place as it was heard.
@@ -36,25 +36,22 @@ pub fn judge(
     if c != bcc {
         return Err(Refusal::WrongBcc);
     }
-    if count < IDENTIFIER_LENGTH {
+    let end = usize::from(count);
+    if end < IDENTIFIER_LENGTH {
         return Err(Refusal::UnderTwo);
     }
-    let Some(i) = items::find(kept[0], kept[1]) else {
+    let Some(place) = items::find(kept[0], kept[1]) else {
         return Err(Refusal::UnknownIdentifier);
     };
-    let end = count as usize;
     if MOST_KEPT < end {
         return Err(Refusal::OverSixCharacters);
     }
-    let value = text::read(
-        items::decimals(xu, i),
-        &kept[IDENTIFIER_LENGTH as usize..end],
-    )?;
-    if !items::writable(i) {
+    let value = text::read(items::decimals(xu, place), &kept[IDENTIFIER_LENGTH..end])?;
+    if !items::writable(place) {
         return Err(Refusal::ReadOnly);
     }
-    if !items::in_range(i, value) {
+    if !items::in_range(place, value) {
         return Err(Refusal::OutOfRange);
     }
-    Ok(Setting { place: i, value })
+    Ok(Setting { place, value })
 }
