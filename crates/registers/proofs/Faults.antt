@@ -1,20 +1,18 @@
 -- The rules of each function one by one, and what follows from meeting a fault or none.
 -- Assumes nothing.
 use mathlib.Core.Path.{◌≡◌, refl, ◌∙◌}
-use mathlib.Core.Bool.{Bool, true, ◌&&◌}
+use mathlib.Core.Bool.{Bool, true}
 use mathlib.Core.List.{List}
 use Prim.Native.Nat.{ℕ, ◌+◌, ◌*◌, ◌≤◌, ◌<◌}
 use native.Mathlib.Omega.{arith}
-use borrow.Author.Tests.{eqb-true, eq-eqb, leb-true, le-leb}
-use lib.Dec.{eqb, leb}
 use lib.ListN.{length}
+use Rattle.std.proofs.lemmas.Bool.Decides.{nat_tests}
 use Rattle.numbers.specs.Numbers.{none, unless}
-use Rattle.numbers.proofs.Tests.{both, chosen}
-use Rattle.numbers.proofs.Order.{either_first, last-met, passed}
+use Rattle.numbers.proofs.Tests.{chosen}
 use Rattle.items.specs.ItemList.{map_size}
-use Rattle.registers.specs.Faults.{wrong_register, wrong_data, body_length, right_length, first_word, second_word}
-use Rattle.registers.specs.Faults.{most_registers, good_quantity, in_map, read_fault}
-use Rattle.registers.specs.Faults.{data_place, byte_count, most_written, right_counts, loopback_fault}
+use Rattle.registers.specs.Faults.{wrong_register, wrong_data, body_length, first_word, second_word}
+use Rattle.registers.specs.Faults.{most_registers, in_map, read_fault}
+use Rattle.registers.specs.Faults.{byte_count, right_counts, loopback_fault}
 
 -- ---- numbers
 
@@ -40,17 +38,12 @@ numbered_of n e h = let above = n (λ z. h (e ∙ z)) in omega arith
 module _ (body : List ℕ) where
   pub read-numbered : Numbered (read_fault body)
   unfolding read_fault
-  read-numbered =
-      either_first _ _ Numbered (data-numbered (right_length body))
-      (either_first _ _ Numbered (data-numbered (good_quantity (second_word body)))
-      (either_first _ _ Numbered (register-numbered (in_map (first_word body) (second_word body))) none-numbered))
+  read-numbered h = grind (arith, nat_tests)
 
   pub read-span : 1 ≤ second_word body → second_word body ≤ most_registers → length body ≡ body_length → {b : Bool}
       → b ≡ in_map (first_word body) (second_word body) → read_fault body ≡ unless b wrong_register
   unfolding read_fault
-  read-span l m h e =
-      rw (eq-eqb (length body) body_length h, le-leb 1 (second_word body) l, le-leb (second_word body) most_registers m, ← e)
-      (last-met _)
+  read-span l m h e = grind (arith, nat_tests)
 
 -- what a request to read that meets no fault is
 pub record ToRead (body : List ℕ) : Type 0 where
@@ -61,30 +54,18 @@ pub record ToRead (body : List ℕ) : Type 0 where
 
 pub read-accepted : (body : List ℕ) → read_fault body ≡ none → ToRead body
 unfolding read_fault
-read-accepted body e =
-    let a = passed (right_length body) wrong_data _ (omega arith) e in
-    let b = passed (good_quantity (second_word body)) wrong_data _ (omega arith) a.1 in
-    let c = passed (in_map (first_word body) (second_word body)) wrong_register _ (omega arith) b.1 in
-    let q = both (leb 1 (second_word body)) (leb (second_word body) most_registers) b.0 in
-    record {
-      long = eqb-true _ _ a.0;
-      some = leb-true _ _ q.0;
-      few = leb-true _ _ q.1;
-      span = leb-true _ _ c.0;
-    }
+read-accepted body e = record { long = grind (arith, nat_tests); some = grind (arith, nat_tests); few = grind (arith, nat_tests); span = grind (arith, nat_tests) }
 
 -- ---- 08H
 
 module _ (body : List ℕ) where
   pub loopback-numbered : Numbered (loopback_fault body)
   unfolding loopback_fault
-  loopback-numbered =
-      either_first _ _ Numbered (data-numbered (right_length body))
-      (either_first _ _ Numbered (data-numbered (eqb (first_word body) 0)) none-numbered)
+  loopback-numbered h = grind (arith, nat_tests)
 
   pub loopback-accepted : loopback_fault body ≡ none → length body ≡ body_length
   unfolding loopback_fault
-  loopback-accepted e = eqb-true _ _ (passed (right_length body) wrong_data _ (omega arith) e).0
+  loopback-accepted e = grind (arith, nat_tests)
 
 -- ---- 10H
 
@@ -97,16 +78,4 @@ pub record Counted (body : List ℕ) : Type 0 where
 
 pub counted : (body : List ℕ) → right_counts body ≡ true → Counted body
 unfolding right_counts
-counted body r =
-    let long = eqb (length body) (data_place + byte_count body) in
-    let some = leb 1 (second_word body) in
-    let few = leb (second_word body) most_written in
-    let t = both (long && some && few) (eqb (byte_count body) (2 * second_word body)) r in
-    let f = both (long && some) few t.0 in
-    let s = both long some f.0 in
-    record {
-      long = eqb-true _ _ s.0;
-      some = leb-true _ _ s.1;
-      few = leb-true _ _ f.1;
-      twice = eqb-true _ _ t.1;
-    }
+counted body r = record { long = grind (arith, nat_tests); some = grind (arith, nat_tests); few = grind (arith, nat_tests); twice = grind (arith, nat_tests) }

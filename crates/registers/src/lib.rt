@@ -125,8 +125,11 @@ const MOST_WRITTEN: u16 = 123;
 pub fn right_counts(body: &[u8]) -> bool
     ensures { result ≡ right_counts body.now }
 {
+    let Some(count) = body.get(COUNT_PLACE) else {
+        return false;
+    };
+    let count = usize::from(*count);
     let quantity = second_word(body);
-    let count = usize::from(byte_at(body, COUNT_PLACE));
     body.len() == DATA_PLACE + count
         && (1..=MOST_WRITTEN).contains(&quantity)
         && count == 2 * usize::from(quantity)
