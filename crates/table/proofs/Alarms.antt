@@ -1,18 +1,19 @@
 -- Laws of the alarm states: what making them true leaves of a table, and when they are true.
 -- Assumes nothing.
-use mathlib.Core.Path.{◌≡◌, refl, sym, ap, ◌∙◌}
+use mathlib.Core.Path.{◌≡◌, refl, sym, ◌∙◌}
 use mathlib.Core.Logic.{◌≢◌}
-use mathlib.Core.Bool.{Bool, true, false, cond, ◌||◌}
+use mathlib.Core.Bool.{Bool, true, false}
 use mathlib.Core.List.{List}
 use Prim.Native.Nat.{ℕ, ◌<◌}
 use native.Mathlib.Omega.{arith}
-use borrow.Author.Tests.{eqb-true, eqb-false}
+use borrow.Author.Tests.{eqb-true}
 use lib.Dec.{eqb, lit<}
 use lib.IntN.{ℤ, pos}
-use lib.ListN.{set, length, length-set}
-use lib.Seq.{get_or-set_same, get_or-set_other}
+use lib.ListN.{length, length-set}
 use lib.Signed.{le_z}
-use Rattle.numbers.proofs.Tests.{contrary, both}
+use Rattle.std.proofs.lemmas.Bool.Decides.{nat_tests}
+use Rattle.std.proofs.lemmas.Grind.{common_steps}
+use Rattle.numbers.proofs.Tests.{contrary, both, chosen}
 use Rattle.sign.specs.Sign.{eq_z}
 use Rattle.sign.proofs.Laws.{eq_z-true, eq_z-same}
 use Rattle.items.specs.ItemList.{items, item_at, found}
@@ -27,12 +28,7 @@ places = record { measured = refl; state1 = refl; state2 = refl; alarm1 = refl; 
 
 -- an item that is no alarm state is neither
 neither : (i : ℕ) → is_alarm_state i ≡ false → (i ≡ AA → ⊥) × (i ≡ AB → ⊥)
-neither i = by (eqb i AA) (eqb i AB) refl refl
-  where
-    by : (a b : Bool) → eqb i AA ≡ a → eqb i AB ≡ b → (a || b) ≡ false → (i ≡ AA → ⊥) × (i ≡ AB → ⊥)
-    by true b p q e = contrary e
-    by false true p q e = contrary e
-    by false false p q e = (eqb-false i AA p, eqb-false i AB q)
+neither i e = grind (arith, nat_tests)
 
 -- a claim about the items, by the two and those that are neither
 by_state : (P : ℕ → Type 0) (i : ℕ) → P AA → P AB → (is_alarm_state i ≡ false → P i) → P i
@@ -57,25 +53,12 @@ alarm-by t u limit l m = rw (l, m)
 -- what holds of 1 and of 0 holds of it
 pub alarm-is : (P : ℤ → Type 0) → P (pos 1) → P (pos 0) → (t : List ℤ) (limit : ℕ) → P (alarm t limit)
 unfolding alarm
-alarm-is P one none t limit = by (le_z (entry t limit) (entry t M1))
-  where
-    by : (b : Bool) → P (cond b (pos 1) (pos 0))
-    by true = one
-    by false = none
+alarm-is P one none t limit = chosen P (le_z (entry t limit) (entry t M1)) (λ _. one) (λ _. none)
 
 -- an entry that agrees with it is true
 agreeing : (t : List ℤ) (state limit : ℕ) → entry t state ≡ alarm t limit → IsTrue t state limit
 unfolding alarm
-agreeing t state limit agree = by (le_z (entry t limit) (entry t M1)) refl agree
-  where
-    by : (b : Bool) → le_z (entry t limit) (entry t M1) ≡ b → entry t state ≡ cond b (pos 1) (pos 0) → IsTrue t state limit
-    by true p e = record { on = λ _. e; only_then = λ _. p; off = λ q. contrary (sym p ∙ q) }
-    by false p e =
-        record {
-          on = λ q. contrary (sym q ∙ p);
-          only_then = λ one. contrary (ap (eq_z (pos 1)) (sym one ∙ e));
-          off = λ _. e;
-        }
+agreeing t state limit agree = record { on = λ q. grind (arith, nat_tests, q); only_then = λ q. grind (arith, nat_tests, q); off = λ q. grind (arith, nat_tests, q) }
 
 -- so both are in a table in which they agree
 pub agree-true : (t : List ℤ) → alarms_agree t ≡ true → AlarmsTrue t
@@ -92,21 +75,17 @@ kept-length t = simp length-set
 
 pub kept-other : (t : List ℤ) (i : ℕ) → is_alarm_state i ≡ false → entry (alarms_kept t) i ≡ entry t i
 unfolding alarms_kept
-kept-other t i o =
-    let n = neither i o in
-    get_or-set_other (set t AA (alarm t A1)) AB i (alarm t A2) (pos 0) n.1 ∙ get_or-set_other t AA i (alarm t A1) (pos 0) n.0
+kept-other t i o = let n = neither i o in grind (arith, common_steps)
 
 -- puts what M1, A1 and A2 make in the two, in a table that has entries for them
 module _ (t : List ℤ) (h : AB < length t) where
   kept-AA : entry (alarms_kept t) AA ≡ alarm t A1
   unfolding alarms_kept
-  kept-AA =
-      get_or-set_other (set t AA (alarm t A1)) AB AA (alarm t A2) (pos 0) (λ e. omega arith)
-      ∙ get_or-set_same t AA (alarm t A1) (pos 0) (omega arith)
+  kept-AA = grind (arith, common_steps)
 
   kept-AB : entry (alarms_kept t) AB ≡ alarm t A2
   unfolding alarms_kept
-  kept-AB = get_or-set_same (set t AA (alarm t A1)) AB (alarm t A2) (pos 0) (omega (arith, length-set t AA (alarm t A1)))
+  kept-AB = grind (arith, common_steps)
 
 -- M1, A1 and A2 make the same states of the table so left
 kept-alarm : (t : List ℤ) (limit : ℕ) → is_alarm_state limit ≡ false → alarm (alarms_kept t) limit ≡ alarm t limit

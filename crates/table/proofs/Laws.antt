@@ -2,22 +2,23 @@
 -- Assumes nothing.
 use mathlib.Core.Path.{◌≡◌, refl, sym, ap, ◌∙◌}
 use mathlib.Core.Logic.{◌≢◌, ◌⊎◌, inl, inr, ⊎_elim}
-use mathlib.Core.Bool.{Bool, true, false, not}
+use mathlib.Core.Bool.{Bool, true, false}
 use mathlib.Core.List.{List, [], ◌∷◌}
 use Prim.Native.Nat.{ℕ, zero, suc, ◌-◌, ◌<◌}
-use native.Mathlib.Nat.{not-suc-le-zero, le_of_suc-le-suc}
+use native.Mathlib.Nat.{not-suc-le-zero}
 use native.Mathlib.Omega.{arith}
-use borrow.Author.Tests.{eq-eqb, eqb-true, eqb-false, ltb-true, ltb-false, lt-ltb}
+use borrow.Author.Tests.{eq-eqb, eqb-true, eqb-false, ltb-true, ltb-false}
 use lib.Dec.{eqb, ltb}
 use lib.IntN.{ℤ, pos}
 use lib.ListN.{get_or, set, length, length-set}
 use lib.Seq.{set_out, get_or-set_same, get_or-set_other, ext_get_or}
-use Rattle.numbers.specs.Numbers.{none, unless}
-use Rattle.numbers.proofs.Tests.{contrary, both, chosen}
-use Rattle.numbers.proofs.Order.{none-met, test-held}
-use Rattle.items.specs.ItemList.{Item, items, listed, item_list, no_item, item_at, from_low_to_high, in_range}
-use Rattle.table.specs.Table.{wrong_length, entry_outside, no_such_item, value_outside, entry, AA, AB, A1, A2, XU, is_alarm_state, alarm}
-use Rattle.table.specs.Table.{alarms_agree, alarms_kept, all_in_range, table_fault, good_table, start_values, stored, may_put}
+use Rattle.std.proofs.lemmas.Bool.Decides.{nat_tests}
+use Rattle.std.proofs.lemmas.Grind.{common_steps}
+use Rattle.numbers.specs.Numbers.{none}
+use Rattle.numbers.proofs.Tests.{contrary, chosen}
+use Rattle.items.specs.ItemList.{Item, items, item_list, no_item, item_at, from_low_to_high, in_range}
+use Rattle.table.specs.Table.{entry, AA, AB, A1, A2, XU, is_alarm_state, alarm}
+use Rattle.table.specs.Table.{alarms_agree, alarms_kept, all_in_range, table_fault, good_table, start_values, stored}
 use Rattle.table.specs.Table.{put_number, put_table, SameButXU, PutOfXU, AlarmsTrue}
 use Rattle.table.proofs.Alarms.{alarm-is, agree-true, kept-length, kept-other, kept-agree, others-decide, xu-no-matter}
 
@@ -31,17 +32,7 @@ record Good (t : List ℤ) : Type 0 where
 
 good-parts : (t : List ℤ) → good_table t ≡ true → Good t
 unfolding table_fault
-good-parts t g =
-    let long = unless (eqb (length t) items) wrong_length in
-    let ranged = unless (all_in_range item_list t) entry_outside in
-    let alarms = unless (alarms_agree t) entry_outside in
-    let after_none = none-met long (ranged ∷ alarms ∷ []) (eqb-true (table_fault t) none g) in
-    let after-long = none-met ranged (alarms ∷ []) after_none.1 in
-    record {
-      counted = eqb-true _ _ (test-held _ wrong_length (omega arith) after_none.0);
-      inside = test-held _ entry_outside (omega arith) after-long.0;
-      agree = test-held _ entry_outside (omega arith) (none-met alarms [] after-long.1).0;
-    }
+good-parts t g = record { counted = grind (arith, nat_tests); inside = grind (arith, nat_tests); agree = grind (arith, nat_tests) }
 
 good-from : {t : List ℤ} → Good t → good_table t ≡ true
 unfolding table_fault
@@ -51,9 +42,8 @@ all-at : (xs : List Item) (t : List ℤ) (i : ℕ) → all_in_range xs t ≡ tru
     → from_low_to_high (get_or xs i no_item) (entry t i) ≡ true
 all-at [] t i a h k = absurd (not-suc-le-zero h)
 all-at (x ∷ xs) [] i a h k = absurd (not-suc-le-zero k)
-all-at (x ∷ xs) (v ∷ t) zero a h k = (both (from_low_to_high x v) (all_in_range xs t) a).0
-all-at (x ∷ xs) (v ∷ t) (suc i) a h k =
-    all-at xs t i (both (from_low_to_high x v) (all_in_range xs t) a).1 (le_of_suc-le-suc h) (le_of_suc-le-suc k)
+all-at (x ∷ xs) (v ∷ t) zero a h k = grind (arith, nat_tests)
+all-at (x ∷ xs) (v ∷ t) (suc i) a h k = grind (arith, nat_tests, all-at xs t i)
 
 pub good_length : (t : List ℤ) → good_table t ≡ true → length t ≡ items
 good_length t g = (good-parts t g).counted
@@ -101,10 +91,8 @@ all_set : (xs : List Item) (t : List ℤ) (i : ℕ) (v : ℤ) → all_in_range x
     → all_in_range xs (set t i v) ≡ true
 all_set [] t i v a r = refl
 all_set (x ∷ xs) [] i v a r = refl
-all_set (x ∷ xs) (w ∷ t) zero v a r = rw r (both (from_low_to_high x w) (all_in_range xs t) a).1
-all_set (x ∷ xs) (w ∷ t) (suc i) v a r =
-    let p = both (from_low_to_high x w) (all_in_range xs t) a in
-    rw p.0 (all_set xs t i v p.1 r)
+all_set (x ∷ xs) (w ∷ t) zero v a r = grind (arith, nat_tests)
+all_set (x ∷ xs) (w ∷ t) (suc i) v a r = grind (arith, nat_tests, all_set xs t i v)
 
 all-kept : (t : List ℤ) → all_in_range item_list t ≡ true → all_in_range item_list (alarms_kept t) ≡ true
 unfolding alarms_kept
@@ -136,16 +124,16 @@ good-stored t i v g r =
 -- a store leaves the table's length, puts the value in its entry, and leaves every other: all this of the entries that are no alarm
 -- states
 pub stored-length : (t : List ℤ) (i : ℕ) (v : ℤ) → length (stored t i v) ≡ length t
-stored-length t i v =
-    by-store (λ (s : List ℤ). length s ≡ length t) t i v refl (kept-length (set t i v) ∙ length-set t i v)
+unfolding stored
+stored-length t i v = grind (arith, kept-length, common_steps)
 
 pub stored_same : (t : List ℤ) (i : ℕ) (v : ℤ) → is_alarm_state i ≡ false → i < length t → entry (stored t i v) i ≡ v
 unfolding stored
-stored_same t i v o h = rw (lt-ltb i (length t) h) (kept-other (set t i v) i o ∙ get_or-set_same t i v (pos 0) h)
+stored_same t i v o h = grind (arith, kept-other, common_steps)
 
 pub stored_other : (t : List ℤ) (i j : ℕ) (v : ℤ) → is_alarm_state j ≡ false → (j ≡ i → ⊥) → entry (stored t i v) j ≡ entry t j
-stored_other t i j v o h =
-    by-store (λ (s : List ℤ). entry s j ≡ entry t j) t i v refl (kept-other (set t i v) j o ∙ get_or-set_other t i j v (pos 0) h)
+unfolding stored
+stored_other t i j v o h = grind (arith, kept-other, common_steps)
 
 -- so a store to XU changes no other entry of a good table
 pub stored-but-xu : (t : List ℤ) (v : ℤ) → good_table t ≡ true → in_range XU v ≡ true → SameButXU t (stored t XU v)
@@ -202,13 +190,7 @@ stored-in-range t i j v r =
 -- a put that meets no number has a value in range
 accepted-in-range : (t : List ℤ) (n : ℕ) (v : ℤ) → put_number t n v ≡ none → in_range (n - 1) v ≡ true
 unfolding put_number
-accepted-in-range t n v e =
-    let item = unless (listed n) no_such_item in
-    let value = unless (may_put (n - 1) v) value_outside in
-    let after-fault = (none-met (table_fault t) (item ∷ value ∷ []) e).1 in
-    let after-item = (none-met item (value ∷ []) after-fault).1 in
-    let held = test-held _ value_outside (omega arith) (none-met value [] after-item).0 in
-    (both (not (is_alarm_state (n - 1))) (in_range (n - 1) v) held).1
+accepted-in-range t n v e = grind (arith, nat_tests)
 
 -- a good table stays good after put
 pub good-put : (t : List ℤ) (n : ℕ) (v : ℤ) → good_table t ≡ true → good_table (put_table t n v) ≡ true
