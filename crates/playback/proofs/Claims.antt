@@ -26,7 +26,7 @@ use Rattle.capture.specs.Format.{frames}
 use Rattle.playback.specs.Playback.{after, handed_over, at_start, play_number, played}
 use Rattle.playback.specs.Written.{accepts_frame, last_write}
 use Rattle.playback.specs.Claims.{OfFrame, OfPlayback}
-use Rattle.playback.proofs.Frames.{not-accepted, by-message, frame-writes}
+use Rattle.playback.proofs.Frames.{not-accepted, by_message, frame-writes}
 use Rattle.playback.proofs.Frames.{start_fine, handed-writes, handed-good}
 use Rattle.playback.proofs.Played.{address-right, start-at}
 
@@ -53,7 +53,7 @@ frame-claimed call frame =
         not-accepted call.address frame wrong ∙ sym r ∙ sym (ap no_number (acted-refused call frame fine wrong))
     by_its_number fine w true r =
         let right = eqb-true (frame_fault frame) none r in
-        by-message call.address frame right
+        by_message call.address frame right
         ∙ accepted-number call.table call.address (body_of frame) w
         ∙ sym (ap no_number (acted-answered call frame fine right))
 

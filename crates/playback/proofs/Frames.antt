@@ -1,7 +1,7 @@
 -- Frames handed over one at a time: the caller of each makes no fault, and each entry but the alarm states ends with the last value that
 -- a frame writes to its item.
 -- Assumes nothing.
-use Rattle.std.specs.Prelude.{Option, None}
+use Rattle.std.specs.Prelude.{Option, None, Result, Err}
 use mathlib.Core.Path.{◌≡◌, refl, sym, ap, ◌∙◌}
 use mathlib.Core.Bool.{Bool, true, false, ◌&&◌}
 use mathlib.Core.List.{List, [], ◌∷◌, ◌++◌}
@@ -12,7 +12,10 @@ use lib.Dec.{eqb}
 use lib.IntN.{ℤ}
 use lib.ListN.{length}
 use lib.Seq.{length-sets}
+use Rattle.numbers.specs.declared.Refusal.{Refusal}
 use Rattle.numbers.specs.Numbers.{none, least_buffer}
+use Rattle.numbers.specs.Refusals.{number_given}
+use Rattle.numbers.proofs.Refusals.{given-met}
 use Rattle.numbers.proofs.Tests.{both}
 use Rattle.items.specs.ItemList.{items, item_at}
 use Rattle.table.specs.Table.{entry, is_alarm_state, alarms_kept, good_table, table_fault, start_values}
@@ -42,25 +45,32 @@ module _ (address : ℕ) (frame : List ℕ) where
   unfolding accepts_frame
   not-accepted f = rw (ne_eqb (frame_fault frame) none f)
 
-  pub by-message : frame_fault frame ≡ none → accepts_frame address frame ≡ accepts_write address (body_of frame)
+  pub by_message : frame_fault frame ≡ none → accepts_frame address frame ≡ accepts_write address (body_of frame)
   unfolding accepts_frame
-  by-message right = rw (eq-eqb (frame_fault frame) none right)
+  by_message right = rw (eq-eqb (frame_fault frame) none right)
+
+  pub not_accepted : (fault : Result Unit Refusal) (refusal : Refusal) → number_given fault ≡ frame_fault frame → fault ≡ Err refusal
+      → accepts_frame address frame ≡ false
+  not_accepted fault refusal e r = not-accepted (λ z. given-met r (e ∙ z))
+
+  pub with_body : frame_fault frame ≡ none → 4 ≤ length frame
+  with_body = frame-has-body frame
 
   -- so one that is accepted has a body
-  pub accepted-body : accepts_frame address frame ≡ true → 4 ≤ length frame
+  pub accepted_body : accepts_frame address frame ≡ true → 4 ≤ length frame
   unfolding accepts_frame
-  accepted-body a =
+  accepted_body a =
       let right = (both (eqb (frame_fault frame) none) (accepts_write address (body_of frame)) a).0 in
       frame-has-body frame (eqb-true (frame_fault frame) none right)
 
   module _ (i : ℕ) where
-    pub other-writes : accepts_frame address frame ≡ false → wrote address frame i ≡ None
+    pub other_writes : accepts_frame address frame ≡ false → wrote address frame i ≡ None
     unfolding wrote
-    other-writes a = rw a
+    other_writes a = rw a
 
-    pub accepted-writes : accepts_frame address frame ≡ true → wrote address frame i ≡ given (writes_of (body_of frame)) i
+    pub accepted_writes : accepts_frame address frame ≡ true → wrote address frame i ≡ given (writes_of (body_of frame)) i
     unfolding wrote
-    accepted-writes a = rw a
+    accepted_writes a = rw a
 
 -- a read-only item is never written
 pub read-only-writes : (address : ℕ) (frame : List ℕ) (i : ℕ) → (item_at i).writable ≡ false → wrote address frame i ≡ None
@@ -68,11 +78,11 @@ unfolding accepts_frame accepts_write
 read-only-writes address frame i r = by (accepts_frame address frame) refl
   where
     by : (b : Bool) → accepts_frame address frame ≡ b → wrote address frame i ≡ None
-    by false a = other-writes address frame i a
+    by false a = other_writes address frame i a
     by true a =
         let message = (both (eqb (frame_fault frame) none) (accepts_write address (body_of frame)) a).1 in
         let form = ours address (body_of frame) && right_form (body_of frame) in
-        accepted-writes address frame i a
+        accepted_writes address frame i a
         ∙ read-only-given (writes_of (body_of frame)) i (both form (each allowed (writes_of (body_of frame))) message).1 r
 
 -- ---- one frame
@@ -108,18 +118,18 @@ module _ (call : Call) (fine : call_fault call ≡ none) (frame : List ℕ) wher
       by false accepted r a =
           let wrong = eqb-false (frame_fault frame) none r in
           ap entry_of (acted-refused call frame fine wrong)
-          ∙ ap (over (entry call.table i)) (sym (other-writes call.address frame i (not-accepted call.address frame wrong)))
+          ∙ ap (over (entry call.table i)) (sym (other_writes call.address frame i (not-accepted call.address frame wrong)))
       by true false r a =
           let right = eqb-true (frame_fault frame) none r in
           ap entry_of (acted-answered call frame fine right)
           ∙ ap (λ (t : List ℤ). entry t i) (others-leave call.table call.address (body_of frame) a)
-          ∙ ap (over (entry call.table i)) (sym (other-writes call.address frame i (by-message call.address frame right ∙ a)))
+          ∙ ap (over (entry call.table i)) (sym (other_writes call.address frame i (by_message call.address frame right ∙ a)))
       by true true r a =
           let right = eqb-true (frame_fault frame) none r in
           ap entry_of (acted-answered call frame fine right)
           ∙ ap (λ (t : List ℤ). entry t i) (accepted-stores call.table call.address (body_of frame) a)
           ∙ all-given call.table (writes_of (body_of frame)) i s (omega (arith, good_length call.table good))
-          ∙ ap (over (entry call.table i)) (sym (accepted-writes call.address frame i (by-message call.address frame right ∙ a)))
+          ∙ ap (over (entry call.table i)) (sym (accepted_writes call.address frame i (by_message call.address frame right ∙ a)))
 
 -- ---- frames one after the other
 

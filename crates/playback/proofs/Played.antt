@@ -9,8 +9,11 @@ use borrow.Author.Tests.{eqb-true, eq-eqb, ne_eqb}
 use lib.Dec.{eqb}
 use lib.IntN.{ℤ}
 use lib.ListN.{length, length-replicate}
+use Rattle.numbers.specs.declared.Refusal.{Refusal}
 use Rattle.numbers.specs.Numbers.{none, least_buffer, bad_setting}
 use Rattle.numbers.specs.Promise.{Lent}
+use Rattle.numbers.specs.Refusals.{number_of}
+use Rattle.numbers.proofs.Refusals.{refusal-met}
 use Rattle.numbers.proofs.Order.{last-met, passed, is-refused, is-done}
 use Rattle.items.specs.ItemList.{items}
 use Rattle.table.specs.Table.{wrong_length, alarms_kept, start_values, start_number, start_table}
@@ -24,18 +27,18 @@ use Rattle.playback.proofs.Frames.{start_fine, last-writes}
 -- ---- the numbers
 
 module _ (t : List ℤ) (address : ℕ) (c : List ℕ) where
-  pub play-length : (length t ≡ items → ⊥) → play_number t address c ≡ wrong_length
+  pub play_length : (length t ≡ items → ⊥) → play_number t address c ≡ wrong_length
   unfolding play_number
-  play-length l = rw (ne_eqb (length t) items l)
+  play_length l = rw (ne_eqb (length t) items l)
 
   module _ (l : length t ≡ items) where
-    pub play-address : is_address address ≡ false → play_number t address c ≡ bad_setting
+    pub play_address : is_address address ≡ false → play_number t address c ≡ bad_setting
     unfolding play_number
-    play-address a = rw (eq-eqb (length t) items l, a)
+    play_address a = rw (eq-eqb (length t) items l, a)
 
-    pub play-capture : is_address address ≡ true → play_number t address c ≡ capture_fault c
+    pub play_capture : is_address address ≡ true → play_number t address c ≡ capture_fault c
     unfolding play_number
-    play-capture a = rw (eq-eqb (length t) items l, a) (last-met (capture_fault c))
+    play_capture a = rw (eq-eqb (length t) items l, a) (last-met (capture_fault c))
 
   -- with none the table has an entry for each item, and the address is one that a device can have
   pub length-right : play_number t address c ≡ none → length t ≡ items
@@ -45,6 +48,11 @@ module _ (t : List ℤ) (address : ℕ) (c : List ℕ) where
   pub address-right : play_number t address c ≡ none → is_address address ≡ true
   unfolding play_number
   address-right e = (passed (is_address address) bad_setting _ (omega arith) (passed (eqb (length t) items) wrong_length _ (omega arith) e).1).0
+
+module _ (t : List ℤ) (address : ℕ) (c : List ℕ) where
+  -- and the capture has no fault
+  pub capture-right : play_number t address c ≡ none → capture_fault c ≡ none
+  capture-right e = sym (play_capture t address c (length-right t address c e) (address-right t address c e)) ∙ e
 
 -- ---- the promise
 
@@ -60,19 +68,26 @@ pub start-at : (address : ℕ) → is_address address ≡ true → call_fault (a
 unfolding at_start
 start-at address a = start_fine address _ a (omega (arith, length-replicate {A = ℕ} least_buffer 0))
 
-module _ (t : List ℤ) (address : ℕ) (c : List ℕ) {number : ℕ} where
-  pub not-played : number ≡ play_number t address c → (number ≡ none → ⊥)
-      → Lent (play_number t address c) (played t address c) number t
-  unfolding played
-  not-played e h =
-      record { given = e; left = sym (is-refused (play_number t address c) (λ n. t) (handed_over (at_start address) (frames c)).table (λ z. h (e ∙ z))) }
+-- and is not refused
+pub start-fine : (t : List ℤ) → length t ≡ items → start_number t ≡ none
+unfolding start_number
+start-fine t l = rw (eq-eqb (length t) items l)
 
-  pub is-played : {settled left : List ℤ} → number ≡ play_number t address c → number ≡ none
-      → LastWrites address (frames c) start_values settled → left ≡ alarms_kept settled
-      → Lent (play_number t address c) (played t address c) none left
+module _ (t : List ℤ) (address : ℕ) (c : List ℕ) where
+  pub not-played : (refusal : Refusal) → number_of refusal ≡ play_number t address c
+      → Lent (play_number t address c) (played t address c) (number_of refusal) t
+  unfolding played
+  not-played refusal e =
+      record {
+        given = e;
+        left =
+            sym (is-refused (play_number t address c) (λ n. t) (handed_over (at_start address) (frames c)).table (λ z. refusal-met refusal (e ∙ z)));
+      }
+
+  pub is-played : {settled left : List ℤ} → play_number t address c ≡ none → LastWrites address (frames c) start_values settled
+      → left ≡ alarms_kept settled → Lent (play_number t address c) (played t address c) none left
   unfolding played at_start
-  is-played e z w k =
-      let met = sym e ∙ z in
+  is-played met w k =
       record {
         given = sym met;
         left =

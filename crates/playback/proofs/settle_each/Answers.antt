@@ -1,13 +1,8 @@
--- `settle_each`: the items below the next place are those below this one and the one there.
-use Rattle.std.proofs.Common.{arith}
-use Rattle.writes.specs.Writes.{given}
-use Rattle.settings.specs.Settings.{writes_of}
-use Rattle.playback.proofs.Walked.{by-gives, both-steps, below_next}
+-- `settle_each`: an item stays where it is known, and else becomes what it is given.
+use Rattle.std.proofs.Common.{rules, arith}
+use Rattle.playback.proofs.Walked.{settles_next}
 use Rattle.playback.proofs.settle_each.Goals as goal
 
-pub loop-i-preserved : goal.loop-i-preserved
-loop-i-preserved c = (
-  omega arith,
-  by-gives (both-steps c.loop-i.invariant.1 c.settle_item.ensures)
-      (λ i h. below_next (given (writes_of c.args.body.now)) c.loop-i.i i),
-)
+pub loop-item-preserved : goal.loop-item-preserved
+loop-item-preserved c =
+    settles_next c.loop-item.invariant (omega arith) (λ v e. rw e at c.or_else.ensures) (λ e. let h = rw e at c.or_else.ensures in search rules)
