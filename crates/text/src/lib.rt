@@ -15,7 +15,7 @@ pub const WIDTH: usize = 6;
 
 const TENS: [u32; WIDTH + 1] = [1, 10, 100, 1000, 10000, 100000, 1000000];
 
-// 10 to the power k. It is read where `10u32.pow(k)` would multiply.
+// 10 to the power k. A table has it in one step, where `10u32.pow(k)` would multiply in a loop.
 fn power(k: usize) -> u32
     requires { k ≤ width }
     ensures { result ≡ 10 ^ k }
@@ -78,8 +78,8 @@ fn of_parts(minus: bool, decimals: Decimals, whole: &[u8], fraction: &[u8]) -> R
     if whole.is_empty() && fraction.is_empty() {
         return Err(Refusal::NoNumber);
     }
-    let size = n * power(decimals.count) / power(fraction.len());
-    Ok(sign::make(minus, size))
+    let size = n * power(decimals.count);
+    Ok(sign::make(minus, size / power(fraction.len())))
 }
 
 // How many characters stand before the first point, or in all where there is none.
@@ -114,7 +114,8 @@ pub fn read(decimals: u8, chars: &[u8]) -> Result<i32, Refusal>
     of_unsigned(minus, decimals, digits)
 }
 
-// The digits of a size with the point and no sign, in every place. d0 is its last digit, d1 the one before, and so on.
+// The digits of a size with the point and no sign, in every place. d0 is its last digit, d1 the one before, and so on. The four texts
+// stand here as they are read, and a loop would have to find the point's place.
 fn places(decimals: Decimals, size: u32) -> [u8; WIDTH]
     ensures { result ≡ text_of width decimals.count false size }
 {
@@ -154,9 +155,8 @@ pub fn write(decimals: u8, value: i32) -> Result<[u8; WIDTH], Refusal>
     let decimals = Decimals::new(decimals)?;
     let minus = value < 0;
     let size = value.unsigned_abs();
-    if size < power(decimals.room(minus)) {
-        Ok(layout(minus, decimals, size))
-    } else {
-        Err(Refusal::DoesNotFit)
+    if size >= power(decimals.room(minus)) {
+        return Err(Refusal::DoesNotFit);
     }
+    Ok(layout(minus, decimals, size))
 }

@@ -1,13 +1,15 @@
 -- Each test of the code is one of the definition's.
-use Rattle.std.proofs.Common.{rules, ◌≡◌, ◌≤◌, get_or, ◌∙◌}
+use Rattle.std.proofs.Common.{rules, true, ap, Bool, Bor, List, ℕ, ℤ, Result, ◌≡◌, ◌≤◌, get_or, ◌∙◌}
 use Rattle.std.proofs.lemmas.Result.{err_from_is_err_and}
 use borrow.Author.Rules.{part_to_end}
+use Rattle.numbers.specs.declared.Refusal.{Refusal}
 use Rattle.text.specs.Characters.{minus_sign}
 use Rattle.text.specs.Numbers.{width, most_decimals}
+use Rattle.text.specs.Reading.{of_unsigned}
 use Rattle.text.proofs.Readings.{read-decimals, read-long, read-text}
 use Rattle.text.proofs.Steps.{with-minus, without-minus}
 use Rattle.text.proofs.read.Goals as goal
-use Rattle.text.proofs.read.Goals.{in-45, in_default, in_default-via-then-chars-lt1, in_default-via-else-chars-lt1+in_default-1}
+use Rattle.text.proofs.read.Goals.{in-45, in_default}
 
 pub returns-in_err-decimals : goal.returns-in_err-decimals
 returns-in_err-decimals c =
@@ -25,13 +27,14 @@ returns c =
     let s = c.args in
     let chars = s.chars.now in
     let few : s.decimals ≤ most_decimals = rw (← c.in_ok-decimals.ensures) c.in_ok-decimals.decimals.few in
+    let said : Bool × Bor (List ℕ) → Result ℤ Refusal = λ p. of_unsigned p.0 s.decimals p.1.now in
     let unsigned = rw c.in_ok-decimals.ensures at c.of_unsigned.ensures in
     read-text width s.decimals chars few c.if-chars-gt-WIDTH.false
     (elim c.if-chars-lt1.branch [
       | in-45 w ↦
           let minus : get_or chars 0 0 ≡ minus_sign = search rules in
-          unsigned ∙ rw (w.minus-is, part_to_end chars 1) (with-minus s.decimals chars minus)
+          unsigned ∙ ap said w.minus-is ∙ ap (of_unsigned true s.decimals) (part_to_end chars 1) ∙ with-minus s.decimals chars minus
       | in_default w ↦
           let other : get_or chars 0 0 ≡ minus_sign → ⊥ = search rules in
-          unsigned ∙ rw w.minus-is (without-minus s.decimals chars other)
+          unsigned ∙ ap said w.minus-is ∙ without-minus s.decimals chars other
     ])

@@ -16,21 +16,21 @@ returns-in_err-decimals c =
     rw (given.1, given.2, refused.0) (sym (many-decimals width c.args.decimals c.args.value refused.1))
 
 pub returns-then-size-power : goal.returns-then-size-power
-unfolding fits text
+unfolding fits
 returns-then-size-power c =
     let s = c.args in
     let few : s.decimals ≤ most_decimals = rw (← c.in_ok-decimals.ensures) c.in_ok-decimals.decimals.few in
     let back = same s.value c.ranges.value.sfits in
     let size = c.unsigned_abs-size.ensures.value ∙ ap nat_abs back in
-    let fit = lt-ltb (nat_abs s.value) _ (rw (size, c.power.ensures, c.room.ensures, c.in_ok-decimals.ensures, back) at c.if-size-power.true) in
-    ap accepted (c.layout.ensures ∙ rw (size, back, c.in_ok-decimals.ensures)) ∙ sym (fitting width s.decimals s.value few fit)
+    let unfit = le-ltb (nat_abs s.value) _ (rw (size, c.power.ensures, c.room.ensures, c.in_ok-decimals.ensures, back) at c.if-size-power.true) in
+    sym (not-fitting width s.decimals s.value few unfit)
 
-pub returns-else-size-power : goal.returns-else-size-power
-unfolding fits
-returns-else-size-power c =
+pub returns : goal.returns
+unfolding fits text
+returns c =
     let s = c.args in
     let few : s.decimals ≤ most_decimals = rw (← c.in_ok-decimals.ensures) c.in_ok-decimals.decimals.few in
     let back = same s.value c.ranges.value.sfits in
     let size = c.unsigned_abs-size.ensures.value ∙ ap nat_abs back in
-    let unfit = le-ltb (nat_abs s.value) _ (rw (size, c.power.ensures, c.room.ensures, c.in_ok-decimals.ensures, back) at c.if-size-power.false) in
-    sym (not-fitting width s.decimals s.value few unfit)
+    let fit = lt-ltb (nat_abs s.value) _ (rw (size, c.power.ensures, c.room.ensures, c.in_ok-decimals.ensures, back) at c.if-size-power.false) in
+    ap accepted (c.layout.ensures ∙ rw (size, back, c.in_ok-decimals.ensures)) ∙ sym (fitting width s.decimals s.value few fit)
