@@ -2,6 +2,7 @@
 -- Assumes nothing.
 use Rattle.std.proofs.Common.{◌≡◌, ℕ, ◌-◌, ◌≤◌, List, length, take, ℤ, sym, refl, ap, ◌∙◌, ap₂, arith}
 use mathlib.Core.Path.{subst⁻¹}
+use Rattle.std.specs.Prelude.{Option, unwrap_or}
 use Rattle.numbers.specs.Numbers.{none}
 use Rattle.modbus.specs.declared.Answered.{Answered}
 use Rattle.modbus.specs.Promise.{Gives}
@@ -23,6 +24,10 @@ module _ (call : Call) (line : List ℕ) where
   pub record Looked (after : List ℕ) (n fault : ℕ) : Type 0 where
     pub taken : Takes (bytes_taken line) after n
     pub faulty : fault ≡ bytes_fault (take n after)
+
+  pub looked : {after : List ℕ} {n fault : ℕ} (r : Option ℕ) → n ≡ unwrap_or r 0 → Takes (bytes_taken line) after (unwrap_or r 0)
+      → fault ≡ bytes_fault (take n after) → Looked after n fault
+  looked {after} r e t f = record { taken = subst⁻¹ (Takes (bytes_taken line) after) e t; faulty = f }
 
   module _ {after : List ℕ} {n fault : ℕ} (l : Looked after n fault) where
     line-fault : fault ≡ line_fault line

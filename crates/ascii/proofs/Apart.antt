@@ -15,7 +15,7 @@ use Rattle.ascii.specs.Claims.{Body}
 use Rattle.ascii.proofs.Hexadecimal.{hex-range, hex-at, all-hex, bytes_back, hex-again}
 use Rattle.ascii.proofs.Colon.{dropped-short, colon-there, dropped-first, none_dropped}
 use Rattle.ascii.proofs.Taken.{are-made, long-enough}
-use Rattle.ascii.proofs.Faults.{form-right, right-number}
+use Rattle.ascii.proofs.Faults.{sent-body, sent-last, form-right, right-number}
 use Rattle.ascii.proofs.Written.{digits-length}
 
 -- CR and LF, which stand at the end
@@ -95,18 +95,12 @@ module _ (body : List ℕ) (b : Body body) where
   line-form = form_of (hex_of sent) (all-hex sent sent-bytes) sent-made
 
   -- the body is all but the last byte, which is the LRC
-  one_less : length body ≡ length sent - 1
-  one_less = omega (arith, length-append body (lrc_of body ∷ []))
-
-  sent-body : message_of sent ≡ body
-  sent-body = take_at body (lrc_of body ∷ []) (length sent - 1) one_less
-
   sent-right : right_lrc sent ≡ true
   sent-right =
-      eq-eqb (lrc_of (message_of sent)) (lrc_in sent) (ap lrc_of sent-body ∙ sym (get_or_at body (lrc_of body) [] 0 (length sent - 1) one_less))
+      eq-eqb (lrc_of (message_of sent)) (lrc_in sent) (ap lrc_of (sent-body body (lrc_of body)) ∙ sym (sent-last body (lrc_of body)))
 
   pub line-body : message_of (bytes_in (line_of body)) ≡ body
-  line-body = ap message_of line-bytes ∙ sent-body
+  line-body = ap message_of line-bytes ∙ sent-body body (lrc_of body)
 
   pub line-no-fault : line_fault (line_of body) ≡ none
   unfolding line_fault

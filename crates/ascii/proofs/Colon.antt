@@ -1,6 +1,6 @@
 -- What the last colon drops: found from either end.
 -- Assumes nothing.
-use Rattle.std.proofs.Common.{◌≡◌, ℕ, suc, ◌+◌, ◌-◌, ◌<◌, ◌≤◌, Bool, true, false, cond, eqb, leb, List, [], ◌∷◌, ◌++◌, length, get_or, take, drop, refl, ap, ◌∙◌, arith, length-take-le, take-suc, ne_eqb, eqb-true, le-leb, leb-true}
+use Rattle.std.proofs.Common.{◌≡◌, ◌≢◌, ℕ, zero, suc, ◌+◌, ◌-◌, ◌<◌, ◌≤◌, Bool, true, false, cond, eqb, leb, List, [], ◌∷◌, ◌++◌, length, get_or, drop, refl, ap, ◌∙◌, arith, ne_eqb, eqb-true, le-leb, leb-true}
 use borrow.Author.Tests.{lt-leb}
 use lib.Seq.{drop-append-add}
 use Rattle.ascii.specs.Line.{colon, dropped, behind_colon}
@@ -12,27 +12,6 @@ dropped-front [] line h = omega arith
 dropped-front (b ∷ before) line h =
     let rest = dropped-front before line h in
     rw (rest, le-leb 1 (length before + dropped line) (omega arith)) (omega arith)
-
--- the last character decides, or else those in front of it
-last-colon : (xs : List ℕ) → dropped (xs ++ (colon ∷ [])) ≡ length xs + 1
-unfolding dropped
-last-colon xs = dropped-front xs (colon ∷ []) (omega arith)
-
-last-other : (xs : List ℕ) (c : ℕ) → (c ≡ colon → ⊥) → dropped (xs ++ (c ∷ [])) ≡ dropped xs
-unfolding dropped
-last-other [] c h = rw (ne_eqb c colon h)
-last-other (x ∷ xs) c h = rw (last-other xs c h)
-
-module _ (line : List ℕ) (j : ℕ) (inside : j < length line) where
-  pub colon-here : get_or line j 0 ≡ colon → dropped (take (suc j) line) ≡ suc j
-  colon-here e =
-      ap dropped (take-suc line j 0 inside)
-      ∙ ap (λ (c : ℕ). dropped (take j line ++ (c ∷ []))) e
-      ∙ last-colon (take j line)
-      ∙ omega (arith, length-take-le j line (omega arith))
-
-  pub other-here : (get_or line j 0 ≡ colon → ⊥) → dropped (take (suc j) line) ≡ dropped (take j line)
-  other-here h = ap dropped (take-suc line j 0 inside) ∙ last-other (take j line) (get_or line j 0) h
 
 -- ---- a line and its last colon
 
@@ -78,3 +57,21 @@ none_dropped [] ys h e = e
 none_dropped (x ∷ xs) ys h e =
     let rest = none_dropped xs ys (λ i k. h (suc i) (omega arith)) e in
     rw (lt-leb 1 (dropped (xs ++ ys)) (omega arith), ne_eqb x colon (h 0 (omega arith)))
+
+-- a line of no colons, and one that has a colon and no other behind it
+pub no_colon : (line : List ℕ) → ((k : ℕ) → k < length line → get_or line k 0 ≢ colon) → dropped line ≡ 0
+unfolding dropped
+no_colon [] h = refl
+no_colon (c ∷ line) h =
+    let rest = no_colon line (λ k l. h (suc k) (omega arith)) in
+    rw (lt-leb 1 (dropped line) (omega arith), ne_eqb c colon (h 0 (omega arith)))
+
+pub last_colon : (line : List ℕ) (i : ℕ) → i < length line → get_or line i 0 ≡ colon
+    → ((k : ℕ) → i + 1 ≤ k → k < length line → get_or line k 0 ≢ colon) → dropped line ≡ i + 1
+unfolding dropped
+last_colon [] i inside here behind = absurd (omega arith)
+last_colon (c ∷ line) zero inside here behind =
+    ap (λ (x : ℕ). dropped (x ∷ line)) here ∙ dropped-first line (no_colon line (λ k l. behind (suc k) (omega arith) (omega arith)))
+last_colon (c ∷ line) (suc i) inside here behind =
+    let rest = last_colon line i (omega arith) here (λ k h l. behind (suc k) (omega arith) (omega arith)) in
+    rw (le-leb 1 (dropped line) (omega arith)) (omega arith)

@@ -1,15 +1,44 @@
 -- A line's fault, by the bytes that are taken of it, and what is known of a line that has none.
 -- Assumes nothing.
-use Rattle.std.proofs.Common.{◌≡◌, ℕ, ◌-◌, ◌≤◌, Bool, true, false, cond, ◌&&◌, leb, List, [], ◌∷◌, length, take, sym, refl, ap, ◌∙◌, ap₂, arith, take-take}
+use Rattle.std.proofs.Common.{◌≡◌, ℕ, ◌-◌, ◌<◌, ◌≤◌, Bool, true, false, cond, ◌&&◌, eqb, leb, List, [], ◌∷◌, ◌++◌, length, length-append, take_at, take, sym, refl, ap, ◌∙◌, ap₂, arith, take-take}
+use lib.Seq.{get_or_at}
 use Rattle.numbers.specs.Numbers.{none, unless, first_met}
 use Rattle.numbers.proofs.Tests.{both}
 use Rattle.numbers.proofs.Order.{last-met, passed}
 use Rattle.ascii.specs.Hexadecimal.{bytes_of}
 use Rattle.ascii.specs.Line.{wrong_line, wrong_lrc, dropped, behind_colon, ends_in_cr_lf, before_cr_lf, fewest, most, make_bytes}
-use Rattle.ascii.specs.Line.{right_form, bytes_in, message_of, right_lrc, line_fault}
+use Rattle.ascii.specs.Line.{right_form, bytes_in, lrc_of, message_of, lrc_in, right_lrc, line_fault}
 use Rattle.ascii.specs.Promise.{bytes_made, bytes_behind, bytes_taken, bytes_fault, Takes}
 use Rattle.ascii.proofs.Hexadecimal.{bytes-length}
 use Rattle.ascii.proofs.Taken.{are-made}
+
+-- ---- the last of some bytes
+
+module _ (body : List ℕ) (check : ℕ) where
+  abbrev sent : List ℕ
+  sent = body ++ (check ∷ [])
+
+  one_less : length body ≡ length sent - 1
+  one_less = omega (arith, length-append body (check ∷ []))
+
+  pub sent-body : message_of sent ≡ body
+  sent-body = take_at body (check ∷ []) (length sent - 1) one_less
+
+  pub sent-last : lrc_in sent ≡ check
+  sent-last = get_or_at body check [] 0 (length sent - 1) one_less
+
+  -- it decides
+  pub sent-fault : bytes_fault sent ≡ unless (eqb (lrc_of body) check) wrong_lrc
+  unfolding bytes_fault
+  sent-fault =
+      some sent (omega (arith, length-append body (check ∷ [])))
+      ∙ ap₂ (λ (b : List ℕ) (l : ℕ). unless (eqb (lrc_of b) l) wrong_lrc) sent-body sent-last
+    where
+      some : (bytes : List ℕ) → 0 < length bytes → bytes_fault bytes ≡ unless (right_lrc bytes) wrong_lrc
+      some [] h = absurd (omega arith)
+      some (b ∷ bytes) h = refl
+
+-- ---- a line
 
 -- three tests in turn are one
 in-turn : (a b c : Bool) (bytes : List ℕ) → cond a (cond b (cond c bytes []) []) [] ≡ cond (a && b && c) bytes []

@@ -1,8 +1,9 @@
 -- Hexadecimal both ways: what the characters of bytes are, and that they are taken back to the bytes.
 -- Assumes nothing.
-use Rattle.std.proofs.Common.{◌≡◌, ℕ, zero, suc, ◌+◌, ◌-◌, ◌*◌, ◌/◌, ◌%◌, ◌<◌, ◌≤◌, Bool, true, false, ◌&&◌, ◌||◌, leb, ◌⊎◌, List, [], ◌∷◌, ◌++◌, length, get_or, refl, ap, ◌∙◌, ap₂, inl, inr, ⊎_elim, arith, le-ltb, lt-ltb, le-leb, leb-true}
+use Rattle.std.proofs.Common.{◌≡◌, ℕ, zero, suc, ◌+◌, ◌-◌, ◌*◌, ◌/◌, ◌%◌, ◌<◌, ◌≤◌, Bool, true, false, cond, ◌&&◌, ◌||◌, leb, ◌⊎◌, List, [], ◌∷◌, ◌++◌, length, get_or, refl, ap, ◌∙◌, ap₂, inl, inr, ⊎_elim, arith, le-ltb, lt-ltb, le-leb, leb-true}
 use borrow.Author.Tests.{lt-leb}
-use Rattle.numbers.proofs.Tests.{both}
+use Rattle.std.specs.Prelude.{Option, Some, None, is_some, unwrap_or}
+use Rattle.numbers.proofs.Tests.{both, contrary}
 use Rattle.items.proofs.Lists.{passes_at}
 use Rattle.crc.specs.Crc.{Bytes}
 use Rattle.crc.proofs.Agree.{agree_at}
@@ -33,8 +34,20 @@ half-small c e =
     (λ r. let high = r.1 in rw (lt-leb c nine_digit (omega arith)) (omega arith))
     (hex-range c e)
 
-pub half-below : (c : ℕ) {half : ℕ} → is_hex c ≡ true → half ≡ half_of c → half < 16
-half-below c e h = let small = half-small c e in omega arith
+-- and where it stands for anything it is hexadecimal
+pub record Stands (c half : ℕ) : Type 0 where
+  pub hex : is_hex c ≡ true
+  pub meant : half ≡ half_of c
+  pub small : half < 16
+
+pub stands : (c : ℕ) {half : ℕ} → Some half ≡ cond (is_hex c) (Some (half_of c)) None → Stands c half
+stands c {half} e = by (is_hex c) refl e
+  where
+    by : (b : Bool) → is_hex c ≡ b → Some half ≡ cond b (Some (half_of c)) None → Stands c half
+    by true h s =
+        let same : half ≡ half_of c = ap (λ (o : Option ℕ). unwrap_or o 0) s in
+        record { hex = h; meant = same; small = rw same (half-small c h) }
+    by false h s = absurd (contrary (ap is_some s))
 
 -- the character of half a byte is hexadecimal and stands for it: sixteen cases, computed
 digit-hex : (half : ℕ) → half < 16 → is_hex (digit_of half) ≡ true

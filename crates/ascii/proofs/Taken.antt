@@ -1,10 +1,12 @@
 -- What is taken of a line, step by step.
 -- Assumes nothing.
-use Rattle.std.proofs.Common.{◌≡◌, ℕ, suc, ◌+◌, ◌*◌, ◌/◌, ◌%◌, ◌<◌, ◌≤◌, Bool, true, false, ◌&&◌, eqb, leb, List, [], ◌∷◌, length, get_or, take, drop, set, sym, refl, ap, ◌∙◌, subst, ap₂, add-one, arith, length-drop, length-take, drop-cons, ne_eqb, eqb-true, le-leb, leb-true}
+use Rattle.std.proofs.Common.{◌≡◌, ℕ, suc, ◌+◌, ◌-◌, ◌*◌, ◌/◌, ◌%◌, ◌<◌, ◌≤◌, Bool, true, false, ◌&&◌, eqb, leb, List, [], ◌∷◌, length, get_or, take, drop, set, sym, refl, ap, ◌∙◌, subst, ap₂, add-one, arith, length-drop, length-take, drop-cons, ne_eqb, eqb-true, le-leb, leb-true}
 use borrow.Author.Tests.{lt-leb}
+use lib.Pointwise.{pointwise}
 use lib.Seq.{sets}
 use Rattle.numbers.proofs.Tests.{contrary, both}
-use Rattle.ascii.specs.Hexadecimal.{all_hex, half_of, bytes_of}
+use Rattle.crc.proofs.Framed.{last-two}
+use Rattle.ascii.specs.Hexadecimal.{is_hex, all_hex, half_of, bytes_of}
 use Rattle.ascii.specs.Line.{CR, LF, dropped, behind_colon, ends_in_cr_lf, before_cr_lf, fewest, most, right_number, make_bytes}
 use Rattle.ascii.specs.Promise.{bytes_made, bytes_behind, bytes_taken, Takes}
 use Rattle.ascii.proofs.Hexadecimal.{bytes-length}
@@ -39,20 +41,29 @@ are-made characters e =
 abbrev pub bytes_left : List ℕ → List ℕ → ℕ → List ℕ
 bytes_left characters stored k = sets stored k (bytes_of (drop (2 * k) characters))
 
+module _ (characters : List ℕ) (i : ℕ) (inside : i < length characters / 2) where
+  -- the two characters of the next byte
+  next_two : drop (2 * i) characters ≡ get_or characters (2 * i) 0 ∷ get_or characters (2 * i + 1) 0 ∷ drop (2 * (i + 1)) characters
+  next_two =
+      let high = get_or characters (2 * i) 0 in
+      let next : suc (suc (2 * i)) ≡ 2 * (i + 1) = omega arith in
+      let low : suc (2 * i) ≡ 2 * i + 1 = omega arith in
+      drop-cons characters (2 * i) 0 (omega arith)
+      ∙ ap (λ (xs : List ℕ). high ∷ xs) (drop-cons characters (suc (2 * i)) 0 (omega arith))
+      ∙ ap₂ (λ (j k : ℕ). high ∷ get_or characters j 0 ∷ drop k characters) low next
+
+  -- where both are hexadecimal, those behind them decide
+  pub hex-turn : is_hex (get_or characters (2 * i) 0) ≡ true → is_hex (get_or characters (2 * i + 1) 0) ≡ true
+      → all_hex (drop (2 * i) characters) ≡ all_hex (drop (2 * (i + 1)) characters)
+  hex-turn high low = ap all_hex next_two ∙ rw (high, low)
+
 module _ (characters bytes : List ℕ) (i : ℕ) where
   pub bytes-turn : (v : ℕ) → i < length characters / 2
       → v ≡ 16 * half_of (get_or characters (2 * i) 0) + half_of (get_or characters (2 * i + 1) 0)
       → bytes_left characters bytes i ≡ bytes_left characters (set bytes i v) (i + 1)
   unfolding bytes_of
   bytes-turn v h e =
-      let high = get_or characters (2 * i) 0 in
-      let next : suc (suc (2 * i)) ≡ 2 * (i + 1) = omega arith in
-      let low : suc (2 * i) ≡ 2 * i + 1 = omega arith in
-      let two : drop (2 * i) characters ≡ high ∷ get_or characters (2 * i + 1) 0 ∷ drop (2 * (i + 1)) characters =
-      drop-cons characters (2 * i) 0 (omega arith)
-      ∙ ap (λ (xs : List ℕ). high ∷ xs) (drop-cons characters (suc (2 * i)) 0 (omega arith))
-      ∙ ap₂ (λ (j k : ℕ). high ∷ get_or characters j 0 ∷ drop k characters) low next in
-      ap (λ (xs : List ℕ). sets bytes i (bytes_of xs)) two
+      ap (λ (xs : List ℕ). sets bytes i (bytes_of xs)) (next_two characters i h)
       ∙ ap₂ (λ (x k : ℕ). sets (set bytes i x) k (bytes_of (drop (2 * (i + 1)) characters))) (sym e) (sym (add-one i))
 
   pub bytes-end : length characters / 2 ≤ i → bytes_left characters bytes i ≡ bytes
@@ -61,6 +72,14 @@ module _ (characters bytes : List ℕ) (i : ℕ) where
       sets-none (bytes_of left) bytes i (omega (arith, bytes-length left, length-drop (2 * i) characters))
 
 -- ---- CR and LF
+
+and_false : (b : Bool) → (b && false) ≡ false
+and_false true = refl
+and_false false = refl
+
+and_true : (b : Bool) → (b && true) ≡ b
+and_true true = refl
+and_true false = refl
 
 -- what is too short for both does not end in them: one character is not CR and LF at once
 pub too_short : (rest : List ℕ) → length rest < 2 → ends_in_cr_lf rest ≡ false
@@ -72,6 +91,18 @@ too_short (c ∷ []) h = by (eqb c CR) refl
     by true e = ne_eqb c LF (λ l. omega (arith, eqb-true c CR e))
     by false e = refl
 too_short (c ∷ d ∷ rest) h = absurd (omega arith)
+
+-- what ends in the two
+pub suffix_ends : (rest : List ℕ) → pointwise eqb (drop (length rest - 2) rest) (CR ∷ LF ∷ []) ≡ ends_in_cr_lf rest
+unfolding ends_in_cr_lf
+suffix_ends [] = sym (too_short [] (omega arith))
+suffix_ends (c ∷ []) = and_false (eqb c CR) ∙ sym (too_short (c ∷ []) (omega arith))
+suffix_ends (c ∷ d ∷ rest) = by (c ∷ d ∷ rest) (omega arith)
+  where
+    by : (rest : List ℕ) → 2 ≤ length rest → pointwise eqb (drop (length rest - 2) rest) (CR ∷ LF ∷ []) ≡ ends_in_cr_lf rest
+    by rest h =
+        ap (λ (xs : List ℕ). pointwise eqb xs (CR ∷ LF ∷ [])) (last-two rest h)
+        ∙ ap (λ (b : Bool). eqb (get_or rest (length rest - 2) 0) CR && b) (and_true (eqb (get_or rest (length rest - 1) 0) LF))
 
 pub long-enough : (rest : List ℕ) → ends_in_cr_lf rest ≡ true → 2 ≤ length rest
 long-enough [] e = absurd (contrary (sym e ∙ too_short [] (omega arith)))

@@ -1,34 +1,25 @@
 // One line of Modbus ASCII: it is taken apart, its message is obeyed as in RTU, and the reply goes back as such a line.
 #![tactic(auto)]
 
-ghost use Rattle.std.specs.Prelude.{◌≡◌, ◌+◌, ◌*◌, ◌<◌, ◌≤◌, true, [], ◌∷◌, length, take, unwrap_or};
+ghost use Rattle.std.specs.Prelude.{◌≡◌, ◌+◌, ◌*◌, ◌%◌, ◌<◌, ◌≤◌, true, cond, Some, None, is_some, [], ◌∷◌, length, take, unwrap_or};
 ghost use Rattle.std.proofs.lemmas.List.Edits.{sets};
 ghost use Rattle.numbers.specs.Numbers.{none};
 ghost use Rattle.numbers.specs.Refusals.{number_of, number_given};
 ghost use Rattle.modbus.specs.Promise.{Gives};
 ghost use Rattle.call.specs.Call.{refusal, answered_as};
 ghost use Rattle.ascii.specs.Hexadecimal.{digit_of, hex_of, is_hex, all_hex, half_of, bytes_of};
-ghost use Rattle.ascii.specs.Line.{lrc_of, line_of, dropped, ends_in_cr_lf, most, make_bytes, acted_on};
+ghost use Rattle.ascii.specs.Line.{lrc_of, line_of, acted_on};
 ghost use Rattle.ascii.specs.Promise.{bytes_made, bytes_behind, bytes_taken, bytes_fault, Takes, Writes};
 
 use modbus::Answered;
 use numbers::Refusal;
 
 // The characters at both ends of a line.
-const COLON: u8 = 0x3A;
+const COLON: u8 = b':';
 
-const CR: u8 = 0x0D;
+const CR: u8 = b'\r';
 
-const LF: u8 = 0x0A;
-
-// The first and the last of the digits, and of the letters.
-const ZERO_DIGIT: u8 = 0x30;
-
-const NINE_DIGIT: u8 = 0x39;
-
-const FIRST_LETTER: u8 = 0x41;
-
-const LAST_LETTER: u8 = 0x46;
+const LF: u8 = b'\n';
 
 // The bytes that a line has with its LRC.
 const FEWEST: usize = 3;
@@ -42,15 +33,15 @@ const CRC_BYTES: usize = 2;
 
 // ---- hexadecimal
 
-// The character of half a byte.
+// The character of half a byte. A table of the sixteen would be laid out anew for each.
+#[tactic(auto, unfolding(crate::specs::Hexadecimal::digit_of))]
 fn digit_of(half: u8) -> u8
     requires { half < 16 }
     ensures { result ≡ digit_of half }
 {
-    if half < 10 {
-        ZERO_DIGIT + half
-    } else {
-        FIRST_LETTER + (half - 10)
+    match half {
+        0..=9 => b'0' + half,
+        _ => b'A' + (half - 10),
     }
 }
 
@@ -63,55 +54,28 @@ fn put_hex(buffer: &mut [u8], at: usize, byte: u8)
     buffer[at + 1] = digit_of(byte % 16);
 }
 
-// Whether a character is hexadecimal.
-#[tactic(auto, unfolding(crate::specs::Hexadecimal::is_hex))]
-fn is_hex(c: u8) -> bool
-    ensures { result ≡ is_hex c }
+// The half byte that a hexadecimal character stands for. Lower case stands for none.
+#[tactic(auto, unfolding(crate::specs::Hexadecimal::is_hex, crate::specs::Hexadecimal::half_of))]
+fn half_of(c: u8) -> Option<u8>
+    ensures { result ≡ cond (is_hex c) (Some (half_of c)) None }
 {
     match c {
-        ZERO_DIGIT..=NINE_DIGIT => true,
-        FIRST_LETTER..=LAST_LETTER => true,
-        _ => false,
+        b'0'..=b'9' => Some(c - b'0'),
+        b'A'..=b'F' => Some(10 + (c - b'A')),
+        _ => None,
     }
 }
 
-// Whether all characters are.
-fn all_hex(characters: &[u8]) -> bool
-    ensures { result ≡ all_hex characters.now }
+// The bytes that characters make go to the buffer's front, unless one of the characters is not hexadecimal.
+fn put_bytes(bytes: &mut [u8], characters: &[u8]) -> Option<()>
+    requires { (length characters.now % 2 ≡ 0) × (length characters.now ≤ 2 * length bytes.old) }
+    ensures hex { is_some result ≡ all_hex characters.now }
+    ensures stored { all_hex characters.now ≡ true → bytes.new ≡ sets bytes.old 0 (bytes_of characters.now) }
 {
-    let mut i = 0;
-    while i < characters.len() {
-        if !is_hex(characters[i]) {
-            return false;
-        }
-        i += 1;
+    for i in 0..characters.len() / 2 {
+        bytes[i] = 16 * half_of(characters[2 * i])? + half_of(characters[2 * i + 1])?;
     }
-    true
-}
-
-// The half byte that a character stands for.
-fn half_of(c: u8) -> u8
-    requires { is_hex c ≡ true }
-    ensures { result ≡ half_of c }
-{
-    if c <= NINE_DIGIT {
-        c - ZERO_DIGIT
-    } else {
-        10 + (c - FIRST_LETTER)
-    }
-}
-
-// The bytes that characters make, at the buffer's front.
-fn put_bytes(bytes: &mut [u8], characters: &[u8])
-    requires { (all_hex characters.now ≡ true) × (length characters.now ≤ 2 * length bytes.old) }
-    ensures { bytes.new ≡ sets bytes.old 0 (bytes_of characters.now) }
-{
-    let n = characters.len() / 2;
-    let mut i = 0;
-    while i < n {
-        bytes[i] = 16 * half_of(characters[2 * i]) + half_of(characters[2 * i + 1]);
-        i += 1;
-    }
+    Some(())
 }
 
 // ---- the LRC
@@ -121,91 +85,50 @@ pub fn lrc(bytes: &[u8]) -> u8
     ensures { result ≡ lrc_of bytes.now }
 {
     let mut sum: u8 = 0;
-    let mut i = 0;
-    while i < bytes.len() {
-        sum = std::num::wrapping_add_u8(sum, bytes[i]);
-        i += 1;
+    for byte in bytes {
+        sum = sum.wrapping_add(*byte);
     }
-    std::num::wrapping_sub_u8(0, sum)
+    sum.wrapping_neg()
 }
 
 // ---- a line is taken apart
 
-// How many characters the last colon drops, itself among them, if there is one. It is found from the back.
-fn dropped(line: &[u8]) -> Option<usize>
-    ensures { unwrap_or result 0 ≡ dropped line.now }
-{
-    let mut i = line.len();
-    while 0 < i {
-        if line[i - 1] == COLON {
-            return Some(i);
-        }
-        i -= 1;
-    }
-    None
-}
-
-// Whether CR and LF stand at the end.
-fn ends_in_cr_lf(rest: &[u8]) -> bool
-    ensures { result ≡ ends_in_cr_lf rest.now }
-{
-    let n = rest.len();
-    if n < 2 {
-        return false;
-    }
-    (rest[n - 2] == CR) & (rest[n - 1] == LF)
-}
-
-// Whether characters make the bytes of a line.
-fn make_bytes(characters: &[u8]) -> bool
-    ensures { result ≡ make_bytes characters.now }
-{
-    let n = characters.len();
-    let right = (n % 2 == 0) & (FEWEST <= n / 2) & (n / 2 <= MOST);
-    right && all_hex(characters)
-}
-
 // The bytes of a line go to the buffer's front, and their number is handed back, unless the line's form is wrong. So it is for the
 // characters between, for what stands behind the last colon, and for the line.
-fn take_characters(bytes: &mut [u8], characters: &[u8]) -> Option<usize>
-    requires { most ≤ length bytes.old }
+fn take_characters(bytes: &mut [u8; LONGEST_FRAME], characters: &[u8]) -> Option<usize>
     ensures { Takes (bytes_made characters.now) bytes.new (unwrap_or result 0) }
 {
-    if !make_bytes(characters) {
+    let n = characters.len();
+    let right = (n % 2 == 0) & (FEWEST..=MOST).contains(&(n / 2));
+    if !right {
         return None;
     }
-    put_bytes(bytes, characters);
-    Some(characters.len() / 2)
+    put_bytes(bytes, characters)?;
+    Some(n / 2)
 }
 
-fn take_rest(bytes: &mut [u8], rest: &[u8]) -> Option<usize>
-    requires { most ≤ length bytes.old }
+fn take_rest(bytes: &mut [u8; LONGEST_FRAME], rest: &[u8]) -> Option<usize>
     ensures { Takes (bytes_behind rest.now) bytes.new (unwrap_or result 0) }
 {
-    if !ends_in_cr_lf(rest) {
-        return None;
-    }
-    let n = rest.len() - 2;
-    take_characters(bytes, &rest[..n])
+    let characters = rest.strip_suffix(&[CR, LF])?;
+    take_characters(bytes, characters)
 }
 
-fn take_apart(bytes: &mut [u8], line: &[u8]) -> Option<usize>
-    requires { most ≤ length bytes.old }
+fn take_apart(bytes: &mut [u8; LONGEST_FRAME], line: &[u8]) -> Option<usize>
     ensures { Takes (bytes_taken line.now) bytes.new (unwrap_or result 0) }
 {
-    let start = dropped(line)?;
-    take_rest(bytes, &line[start..])
+    let colon = line.iter().rposition(|&c| c == COLON)?;
+    take_rest(bytes, &line[colon + 1..])
 }
 
 // The fault of a line by the bytes that were taken from it.
 fn bytes_fault(bytes: &[u8]) -> Result<(), Refusal>
     ensures { number_given result ≡ bytes_fault bytes.now }
 {
-    if bytes.len() == 0 {
+    let Some((check, body)) = bytes.split_last() else {
         return Err(Refusal::WrongLine);
-    }
-    let n = bytes.len() - 1;
-    if lrc(&bytes[..n]) == bytes[n] {
+    };
+    if lrc(body) == *check {
         Ok(())
     } else {
         Err(Refusal::WrongLrc)
@@ -220,9 +143,7 @@ fn spread(buffer: &mut [u8], n: usize)
     requires { 2 * n + 1 ≤ length buffer.old }
     ensures { buffer.new ≡ sets buffer.old 1 (hex_of (take n buffer.old)) }
 {
-    let mut i = n;
-    while 0 < i {
-        i -= 1;
+    for i in (0..n).rev() {
         let byte = buffer[i];
         put_hex(buffer, 2 * i + 1, byte);
     }
@@ -261,8 +182,14 @@ fn refuse(table: &[i32], reply: &[u8], address: u8, fault: Refusal) -> Answered
 // The message that is the first n of these bytes goes on as the frame that it would be in RTU, and the body of the reply becomes a
 // line. So the rules for a message have one caller, into which the compiler copies them; called from two places, they would cost
 // every RTU frame some thirty instructions more than it takes.
-fn answer(table: &mut [i32], reply: &mut [u8], address: u8, bytes: &mut [u8], n: usize) -> Answered
-    requires { (2 ≤ n) × (n ≤ 254) × (n + 2 ≤ length bytes.old) }
+fn answer(
+    table: &mut [i32],
+    reply: &mut [u8],
+    address: u8,
+    bytes: &mut [u8; LONGEST_FRAME],
+    n: usize,
+) -> Answered
+    requires { (2 ≤ n) × (n ≤ 254) }
     ensures { Gives (answered_as line_of (record {
       table = table.old;
       buffer = reply.old;

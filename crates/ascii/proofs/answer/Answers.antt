@@ -1,5 +1,5 @@
 -- The frame of the body is answered as the body is, and what it is answered by becomes a line.
-use Rattle.std.proofs.Common.{◌≡◌, ℕ, ◌+◌, ◌*◌, ◌-◌, ◌≤◌, List, length, take, ℤ, sym, ap, ◌∙◌, ap₂, arith, length-take-le}
+use Rattle.std.proofs.Common.{◌≡◌, ℕ, ◌+◌, ◌*◌, ◌-◌, ◌≤◌, List, length, take, ℤ, sym, ap, ◌∙◌, ap₂, arith, length-take-le, le-leb}
 use lib.Seq.{length-sets}
 use Rattle.numbers.specs.Numbers.{none}
 use Rattle.crc.specs.Crc.{framed, Seals}
@@ -10,6 +10,7 @@ use Rattle.modbus.proofs.Acting.{gives-by}
 use Rattle.call.specs.Call.{Call, sending}
 use Rattle.call.proofs.Answered.{as-sent}
 use Rattle.rtu.specs.Frame.{acted_on}
+use Rattle.rtu.proofs.Replies.{sealed_to}
 use Rattle.ascii.specs.Line.{line_of}
 use Rattle.ascii.proofs.Written.{gives_none, replied, body-long, gives-written}
 use Rattle.ascii.proofs.Frames.{message, by-frame, line-fits}
@@ -48,38 +49,51 @@ written-fits call body {a} {buffer} g some =
     ap length g.sends.sent ∙ length-sets call.buffer 0 (sending framed (message call body)).reply in
     omega (arith, body-long (message call body) g some, fits call body g some)
 
-pub slice_bounds-frame-end : goal.slice_bounds-frame-end
-slice_bounds-frame-end c = inside c.args.bytes.now c.args.n c.requires.2 c.seal-end.ensures
+-- the longest body leaves room for its CRC
+room : (bytes : List ℕ) (n : ℕ) → length bytes ≡ 256 → n ≤ 254 → n + 2 ≤ length bytes
+room bytes n long most = omega arith
 
-pub slice_bounds-frame-end-2 : goal.slice_bounds-frame-end-2
-slice_bounds-frame-end-2 c = sym (length-take-le _ _ (inside c.args.bytes.now c.args.n c.requires.2 c.seal-end.ensures))
+pub unwrap-end-requires : goal.unwrap-end-requires
+unwrap-end-requires c = c.seal.ensures.room ∙ le-leb _ _ (room _ _ c.told-bytes c.requires.1)
+
+pub shared_ref_as_front-frame : goal.shared_ref_as_front-frame
+shared_ref_as_front-frame c =
+    let two = two_more c.args.bytes.now c.args.n (room _ _ c.told-bytes c.requires.1) (sealed_to c.unwrap-end.ensures c.seal.ensures.frame) in
+    let most = c.requires.1 in
+    omega arith
+
+pub slice_bounds-frame-end : goal.slice_bounds-frame-end
+slice_bounds-frame-end c =
+    sym
+    (length-take-le _ _
+    (inside c.args.bytes.now c.args.n (room _ _ c.told-bytes c.requires.1) (sealed_to c.unwrap-end.ensures c.seal.ensures.frame)))
 
 pub returns-then-answered-eq0 : goal.returns-then-answered-eq0
 returns-then-answered-eq0 c =
     let call : Call = record { table = c.args.table.now; buffer = c.args.reply.now; address = c.args.address } in
     let body = take c.args.n c.args.bytes.now in
-    let g = ruled c.args.bytes.now c.args.n c.requires.2 c.seal-end.ensures call c.requires.0 c.requires.1 c.frame-answered.ensures.outcome in
+    let g = ruled c.args.bytes.now c.args.n (room _ _ c.told-bytes c.requires.1) (sealed_to c.unwrap-end.ensures c.seal.ensures.frame) call c.requires.0 c.requires.1 c.frame-answered.ensures.outcome in
     gives-by (sym (as-sent line_of call none body)) (gives_none (message call body) g c.if-answered-eq0.true)
 
 pub overflow_sub-answered : goal.overflow_sub-answered
 overflow_sub-answered c =
     let call : Call = record { table = c.args.table.now; buffer = c.args.reply.now; address = c.args.address } in
     let body = take c.args.n c.args.bytes.now in
-    let g = ruled c.args.bytes.now c.args.n c.requires.2 c.seal-end.ensures call c.requires.0 c.requires.1 c.frame-answered.ensures.outcome in
+    let g = ruled c.args.bytes.now c.args.n (room _ _ c.told-bytes c.requires.1) (sealed_to c.unwrap-end.ensures c.seal.ensures.frame) call c.requires.0 c.requires.1 c.frame-answered.ensures.outcome in
     omega (arith, body-long (message call body) g c.if-answered-eq0.false)
 
 pub write_line-len-requires : goal.write_line-len-requires
 write_line-len-requires c =
     let call : Call = record { table = c.args.table.now; buffer = c.args.reply.now; address = c.args.address } in
     let body = take c.args.n c.args.bytes.now in
-    let g = ruled c.args.bytes.now c.args.n c.requires.2 c.seal-end.ensures call c.requires.0 c.requires.1 c.frame-answered.ensures.outcome in
+    let g = ruled c.args.bytes.now c.args.n (room _ _ c.told-bytes c.requires.1) (sealed_to c.unwrap-end.ensures c.seal.ensures.frame) call c.requires.0 c.requires.1 c.frame-answered.ensures.outcome in
     written-fits call body g c.if-answered-eq0.false
 
 pub returns : goal.returns
 returns c =
     let call : Call = record { table = c.args.table.now; buffer = c.args.reply.now; address = c.args.address } in
     let body = take c.args.n c.args.bytes.now in
-    let g = ruled c.args.bytes.now c.args.n c.requires.2 c.seal-end.ensures call c.requires.0 c.requires.1 c.frame-answered.ensures.outcome in
+    let g = ruled c.args.bytes.now c.args.n (room _ _ c.told-bytes c.requires.1) (sealed_to c.unwrap-end.ensures c.seal.ensures.frame) call c.requires.0 c.requires.1 c.frame-answered.ensures.outcome in
     let some = c.if-answered-eq0.false in
     gives-by (sym (as-sent line_of call none body))
     (gives-written (message call body) g some (fits call body g some) c.write_line-len.ensures)

@@ -12,5 +12,5 @@ complement bytes i sum r h small inv byte e =
 
 pub returns : goal.returns
 returns c =
-    complement _ _ _ _ c.loop-i-test.false c.loop-i.invariant.small c.loop-i.invariant.left c.wrapping_sub_u8.type_inv
-    c.wrapping_sub_u8.ensures.value
+    complement _ _ _ _ c.loop-byte-test.false c.loop-byte.invariant.small c.loop-byte.invariant.left c.wrapping_neg.type_inv
+    c.wrapping_neg.ensures

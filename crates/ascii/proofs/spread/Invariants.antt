@@ -9,6 +9,3 @@ invariant-loop-i l = record {
   within : l.i ≤ l.n;
   left : sets l.buffer 1 (hex_of (take l.i l.buffer)) ≡ sets l.fn.buffer 1 (hex_of (take l.n l.fn.buffer));
 }
-
-abbrev pub decreases-loop-i : goal.decreases-loop-i
-decreases-loop-i l = l.i

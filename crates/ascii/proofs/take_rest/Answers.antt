@@ -1,15 +1,16 @@
 -- What stands in front of CR LF decides.
-use Rattle.std.proofs.Common.{sym, ◌∙◌}
-use Rattle.ascii.proofs.Taken.{long-enough, takes_none, takes-by, none-behind, made-behind}
+use Rattle.std.proofs.Common.{sym, ap, ◌∙◌}
+use Rattle.ascii.specs.Promise.{bytes_made}
+use Rattle.ascii.proofs.Taken.{suffix_ends, takes_none, takes-by, none-behind, made-behind}
 use Rattle.ascii.proofs.take_rest.Goals as goal
 
-pub returns-then-not-ends_in_cr_lf : goal.returns-then-not-ends_in_cr_lf
-returns-then-not-ends_in_cr_lf c =
-    takes_none _ (none-behind _ (sym c.ends_in_cr_lf.ensures ∙ c.if-not-ends_in_cr_lf.true))
-
-pub overflow_sub-n : goal.overflow_sub-n
-overflow_sub-n c = long-enough _ (sym c.ends_in_cr_lf.ensures ∙ c.if-not-ends_in_cr_lf.false)
+pub returns-in_err-characters : goal.returns-in_err-characters
+returns-in_err-characters c =
+    rw c.from_residual.ensures
+    (takes_none _ (none-behind c.args.rest.now (sym (suffix_ends c.args.rest.now) ∙ c.in_err-characters.ensures.cases)))
 
 pub returns : goal.returns
 returns c =
-    takes-by (sym (made-behind _ (sym c.ends_in_cr_lf.ensures ∙ c.if-not-ends_in_cr_lf.false))) c.take_characters.ensures
+    let cases = c.in_ok-characters.ensures.cases in
+    takes-by (ap bytes_made cases.1 ∙ sym (made-behind c.args.rest.now (sym (suffix_ends c.args.rest.now) ∙ cases.0)))
+    c.take_characters.ensures
