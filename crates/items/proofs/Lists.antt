@@ -1,20 +1,17 @@
--- Laws on lists and tests for the proofs here and in the crates above: reading a column at a place, a function's values and a test
--- at each number below a bound, and a search by the lines that are left.
+-- Laws on lists and tests for the proofs here and in the crates above: reading a column at a place, and a function's values and a test
+-- at each number below a bound.
 -- Assumes nothing.
-use Rattle.std.specs.Prelude.{Some}
 use mathlib.Core.Path.{◌≡◌, refl, sym, ap, ◌∙◌}
-use mathlib.Core.Bool.{Bool, true, false, cond, ◌&&◌}
+use mathlib.Core.Bool.{Bool, true, false, ◌&&◌}
 use mathlib.Core.List.{List, [], ◌∷◌, ◌++◌, map}
-use Prim.Native.Nat.{ℕ, zero, suc, ◌+◌, ◌<◌, ◌≤◌}
+use Prim.Native.Nat.{ℕ, zero, suc, ◌<◌, ◌≤◌}
 use native.Mathlib.Nat.{not-suc-le-zero, le_of_suc-le-suc}
-use native.Mathlib.Numerals.{add-one}
 use native.Mathlib.Omega.{arith}
 use borrow.Author.Tests.{eqb-true, eqb-false, ltb-true, ltb-false}
 use lib.Dec.{eqb, ltb}
-use lib.ListN.{length, get_or, drop, get_or-eq_default, get_or-map}
-use lib.Seq.{drop-cons}
-use Rattle.numbers.proofs.Tests.{contrary, both, chosen}
-use Rattle.items.specs.ItemList.{Item, items, map_size, item_list, no_item, item_at, lines, line_of, Sizes, first_from}
+use lib.ListN.{length, get_or, get_or-eq_default, get_or-map}
+use Rattle.numbers.proofs.Tests.{contrary, both}
+use Rattle.items.specs.ItemList.{Item, items, map_size, item_list, no_item, item_at, lines, Sizes}
 
 -- what is read at a place inside a list does not depend on what stands past its end
 pub read-inside : {A : Type 0} (l : List A) (i : ℕ) (d e : A) → i < length l → get_or l i d ≡ get_or l i e
@@ -41,28 +38,10 @@ writable-listed i w = by (ltb i items) refl
     by true e = ltb-true i items e
     by false e = contrary (sym w ∙ ap (λ (x : Item). x.writable) (line-past i (ltb-false i items e)))
 
--- a place has a line
-pub line-within : (i : ℕ) → line_of i < length lines
-line-within i =
-    chosen (λ (k : ℕ). k < length lines) (ltb i items) (λ e. let h = ltb-true i items e in omega arith) (λ _. omega arith)
-
--- a column has at the line of a place what the list says of the item there
-pub column : {A : Type 0} (f : Item → A) (i : ℕ) (d : A) → get_or (map f lines) (line_of i) d ≡ f (item_at i)
-column f i d = by (ltb i items) refl
-  where
-    by : (t : Bool) → ltb i items ≡ t → get_or (map f lines) (cond t i items) d ≡ f (item_at i)
-    by true e =
-        let h = ltb-true i items e in
-        read-inside (map f lines) i d (f no_item) (omega arith) ∙ get_or-map f lines i no_item ∙ ap f (one-line-more item_list i no_item)
-    by false e = ap f (sym (line-past i (ltb-false i items e)))
-
--- inside the list, and right behind it, it has that at the place itself
+-- a column has at a place inside the list, and right behind it, what the list says of the item there
 pub column-at : {A : Type 0} (f : Item → A) (i : ℕ) (d : A) → i ≤ items → get_or (map f lines) i d ≡ f (item_at i)
-column-at f i d h = rw line-itself at (column f i d)
-  where
-    line-itself : line_of i ≡ i
-    line-itself =
-        chosen (λ (k : ℕ). k ≡ i) (ltb i items) (λ e. refl) (λ e. let past = ltb-false i items e in omega arith)
+column-at f i d h =
+    read-inside (map f lines) i d (f no_item) (omega arith) ∙ get_or-map f lines i no_item ∙ ap f (one-line-more item_list i no_item)
 
 -- what a function says of each number below n, in their order
 abbrev pub values : {A : Type 0} → (ℕ → A) → ℕ → List A
@@ -93,8 +72,3 @@ sizes = record {
   counted = refl;
   mapped = λ i h. ltb-true _ _ (passes_at (λ (k : ℕ). ltb (item_at k).register map_size) items i refl h);
 }
-
--- a search, by the lines that are left
-pub search-turn : (p : Item → Bool) (l : List Item) (i : ℕ) → i < length l
-    → first_from i p (drop i l) ≡ cond (p (get_or l i no_item)) (Some i) (first_from (i + 1) p (drop (i + 1) l))
-search-turn p l i h = rw (add-one, drop-cons l i no_item)

@@ -4,9 +4,9 @@ use Rattle.std.specs.Prelude.{Option, Some, None}
 use mathlib.Core.Path.{◌≡◌, refl, sym, ap, ◌∙◌}
 use mathlib.Core.Bool.{Bool, true, ◌&&◌, false, cond}
 use mathlib.Core.List.{List, [], ◌∷◌}
-use Prim.Native.Nat.{ℕ, suc, ◌-◌, ◌<◌, ◌≤◌, ◌+◌}
+use Prim.Native.Nat.{ℕ, suc, ◌-◌, ◌<◌, ◌≤◌, ◌+◌, min}
 use native.Mathlib.Omega.{arith}
-use borrow.Author.Tests.{eqb-true, leb-true, ltb-true, ne_eqb}
+use borrow.Author.Tests.{eqb-true, leb-true, ltb-true, ltb-false, ne_eqb}
 use lib.Dec.{eqb, leb, ltb}
 use lib.ListN.{get_or, length}
 use Rattle.numbers.proofs.Tests.{both}
@@ -123,6 +123,12 @@ own-place i h = eqb-true _ _ (passes_at (λ (k : ℕ). eqb (place_of (item_at k)
 pub held-inside : (r : ℕ) → r < map_size → get_or (values place_of (suc map_size)) r 0 ≡ place_of r
 held-inside r h = values-at place_of (suc map_size) r 0 (omega arith)
 
-pub held-past : (r : ℕ) → map_size ≤ r → get_or (values place_of (suc map_size)) map_size 0 ≡ place_of r
-unfolding place_of found_by_register
-held-past r h = sym (place-past r h)
+pub held : (r : ℕ) → get_or (values place_of (suc map_size)) (min r map_size) 0 ≡ place_of r
+held r = by (ltb r map_size) refl
+  where
+    by : (t : Bool) → ltb r map_size ≡ t → get_or (values place_of (suc map_size)) (min r map_size) 0 ≡ place_of r
+    by true e = let h = ltb-true r map_size e in let m : min r map_size ≡ r = omega arith in rw m (held-inside r h)
+    by false e =
+        let h = ltb-false r map_size e in
+        let m : min r map_size ≡ map_size = omega arith in
+        rw m (values-at place_of (suc map_size) map_size 0 (omega arith) ∙ place-past map_size (omega arith) ∙ sym (place-past r h))

@@ -1,1 +1,2 @@
 pub mod ItemList
+pub mod Rows

@@ -1,8 +1,9 @@
 // The item list: what it says of an item, and looking one up. Inside, an item is known by its place in the list, from 0.
 #![tactic(auto)]
 
-ghost use Rattle.std.specs.Prelude.{◌≡◌};
-ghost use Rattle.items.specs.ItemList.{line_of, item_at, identifier_of, decimals_of, listed, in_range, found, found_by_register, place_of};
+ghost use Rattle.std.specs.Prelude.{◌≡◌, bytes_eq, position};
+ghost use Rattle.items.specs.ItemList.{item_at, identifier_of, decimals_of, listed, in_range, found, found_by_register, place_of};
+ghost use Rattle.items.specs.Rows.{row};
 
 // How many items there are.
 pub const ITEMS: usize = 13;
@@ -13,72 +14,67 @@ const LINES: usize = ITEMS + 1;
 // The registers from 0000H to 0013H.
 pub const MAP_SIZE: usize = 20;
 
-// The item list, a column for each thing that it says of an item but its register, in the list's order:
-// M1, AA, AB, B1, ER, S1, A1, A2, PB, PR, F1, TM, XU, and no item.
-const FIRST: [u8; LINES] = *b"MAABESAAPPFTX\0";
+// What the list says of an item but its register.
+#[derive(Clone, Copy)]
+struct Item {
+    name: [u8; 2],
+    writable: bool,
+    // on the RKC line; none where XU gives them
+    decimals: Option<u8>,
+    low: i32,
+    high: i32,
+    start: i32,
+}
 
-const SECOND: [u8; LINES] = *b"1AB1R112BR1MU\0";
+// The item list, in its order.
+#[rattlefmt::skip]
+const LIST: [Item; ITEMS] = [
+    Item { name: *b"M1", writable: false, decimals: None, low: -1999, high: 9999, start: 0 },
+    Item { name: *b"AA", writable: false, decimals: Some(0), low: 0, high: 1, start: 0 },
+    Item { name: *b"AB", writable: false, decimals: Some(0), low: 0, high: 1, start: 0 },
+    Item { name: *b"B1", writable: false, decimals: Some(0), low: 0, high: 1, start: 0 },
+    Item { name: *b"ER", writable: false, decimals: Some(0), low: 0, high: 255, start: 0 },
+    Item { name: *b"S1", writable: true, decimals: None, low: -1999, high: 9999, start: 0 },
+    Item { name: *b"A1", writable: true, decimals: None, low: -1999, high: 9999, start: 500 },
+    Item { name: *b"A2", writable: true, decimals: None, low: -1999, high: 9999, start: 500 },
+    Item { name: *b"PB", writable: true, decimals: Some(2), low: -1000, high: 1000, start: 0 },
+    Item { name: *b"PR", writable: true, decimals: Some(3), low: 500, high: 1500, start: 1000 },
+    Item { name: *b"F1", writable: true, decimals: Some(0), low: 0, high: 100, start: 0 },
+    Item { name: *b"TM", writable: true, decimals: Some(0), low: 0, high: 999, start: 0 },
+    Item { name: *b"XU", writable: true, decimals: Some(0), low: 0, high: 3, start: 1 },
+];
 
+// What stands past the list: nothing may be written to it, and no value is in its range.
+#[rattlefmt::skip]
+const NO_ITEM: Item = Item { name: [0, 0], writable: false, decimals: Some(0), low: 1, high: 0, start: 0 };
+
+// Columns of the list, for what goes over many entries: the processor compares four limits at once only where they stand side by side.
+#[rattlefmt::skip]
 pub const WRITABLE: [bool; LINES] = [
-    false, // M1
-    false, // AA
-    false, // AB
-    false, // B1
-    false, // ER
-    true, // S1
-    true, // A1
-    true, // A2
-    true, // PB
-    true, // PR
-    true, // F1
-    true, // TM
-    true, // XU
-    false, // no item
+    LIST[0].writable, LIST[1].writable, LIST[2].writable, LIST[3].writable, LIST[4].writable, LIST[5].writable, LIST[6].writable,
+    LIST[7].writable, LIST[8].writable, LIST[9].writable, LIST[10].writable, LIST[11].writable, LIST[12].writable, NO_ITEM.writable,
 ];
 
-// What stands for the decimals of an item that has those which XU gives.
-const BY_XU: u8 = 4;
-
-const DECIMALS: [u8; LINES] = [BY_XU, 0, 0, 0, 0, BY_XU, BY_XU, BY_XU, 2, 3, 0, 0, 0, 0];
-
+#[rattlefmt::skip]
 pub const LOW: [i32; LINES] = [
-    -1999, // M1
-    0, // AA
-    0, // AB
-    0, // B1
-    0, // ER
-    -1999, // S1
-    -1999, // A1
-    -1999, // A2
-    -1000, // PB
-    500, // PR
-    0, // F1
-    0, // TM
-    0, // XU
-    1, // no item
+    LIST[0].low, LIST[1].low, LIST[2].low, LIST[3].low, LIST[4].low, LIST[5].low, LIST[6].low,
+    LIST[7].low, LIST[8].low, LIST[9].low, LIST[10].low, LIST[11].low, LIST[12].low, NO_ITEM.low,
 ];
 
+#[rattlefmt::skip]
 pub const HIGH: [i32; LINES] = [
-    9999, // M1
-    1, // AA
-    1, // AB
-    1, // B1
-    255, // ER
-    9999, // S1
-    9999, // A1
-    9999, // A2
-    1000, // PB
-    1500, // PR
-    100, // F1
-    999, // TM
-    3, // XU
-    0, // no item
+    LIST[0].high, LIST[1].high, LIST[2].high, LIST[3].high, LIST[4].high, LIST[5].high, LIST[6].high,
+    LIST[7].high, LIST[8].high, LIST[9].high, LIST[10].high, LIST[11].high, LIST[12].high, NO_ITEM.high,
 ];
 
-pub const START: [i32; LINES] = [0, 0, 0, 0, 0, 0, 500, 500, 0, 1000, 0, 0, 1, 0];
+#[rattlefmt::skip]
+pub const START: [i32; LINES] = [
+    LIST[0].start, LIST[1].start, LIST[2].start, LIST[3].start, LIST[4].start, LIST[5].start, LIST[6].start,
+    LIST[7].start, LIST[8].start, LIST[9].start, LIST[10].start, LIST[11].start, LIST[12].start, NO_ITEM.start,
+];
 
 // The place of a register that no item has: past the list.
-const NO_ITEM: u8 = ITEMS as u8;
+const NOWHERE: u8 = ITEMS as u8;
 
 // The place of the item that has a register, for each register of the map, and last for those past it.
 pub const PLACE_AT: [u8; MAP_SIZE + 1] = [
@@ -87,66 +83,50 @@ pub const PLACE_AT: [u8; MAP_SIZE + 1] = [
     2, // 0002H
     3, // 0003H
     4, // 0004H
-    NO_ITEM, // 0005H
-    NO_ITEM, // 0006H
-    NO_ITEM, // 0007H
+    NOWHERE, // 0005H
+    NOWHERE, // 0006H
+    NOWHERE, // 0007H
     11, // 0008H
-    NO_ITEM, // 0009H
-    NO_ITEM, // 000AH
+    NOWHERE, // 0009H
+    NOWHERE, // 000AH
     5, // 000BH
     6, // 000CH
-    NO_ITEM, // 000DH
+    NOWHERE, // 000DH
     7, // 000EH
-    NO_ITEM, // 000FH
+    NOWHERE, // 000FH
     8, // 0010H
     9, // 0011H
     10, // 0012H
     12, // 0013H
-    NO_ITEM, // past the map
+    NOWHERE, // past the map
 ];
 
-// The line of the item at a place; past the list the last one.
-fn line_of(i: usize) -> usize
-    ensures { result ≡ line_of i }
+// The item at a place; past the list none.
+fn item_at(i: usize) -> Item
+    ensures { result ≡ row (item_at i) }
 {
-    if i < ITEMS { i } else { ITEMS }
+    LIST.get(i).copied().unwrap_or(NO_ITEM)
 }
 
 // The two characters of an item's identifier; 0 past the list.
 pub fn identifier(i: usize) -> [u8; 2]
     ensures { result ≡ identifier_of (item_at i) }
 {
-    let line = line_of(i);
-    [FIRST[line], SECOND[line]]
+    item_at(i).name
 }
 
 // Whether a host may write an item; nothing past the list.
 pub fn writable(i: usize) -> bool
     ensures { result ≡ (item_at i).writable }
 {
-    WRITABLE[line_of(i)]
+    item_at(i).writable
 }
 
 // The decimals of an item on the RKC line, where XU gives so many; none past the list.
 pub fn decimals(xu: u8, i: usize) -> u8
     ensures { result ≡ decimals_of xu i }
 {
-    let listed = DECIMALS[line_of(i)];
-    if listed == BY_XU { xu } else { listed }
-}
-
-// The lowest value of an item.
-fn low(i: usize) -> i32
-    ensures { result ≡ (item_at i).low }
-{
-    LOW[line_of(i)]
-}
-
-// The highest; past the list it is below the lowest.
-fn high(i: usize) -> i32
-    ensures { result ≡ (item_at i).high }
-{
-    HIGH[line_of(i)]
+    item_at(i).decimals.unwrap_or(xu)
 }
 
 // Whether an item has this number, counted from 1.
@@ -156,33 +136,25 @@ pub fn listed(number: u32) -> bool
     (1 <= number) & (number as usize <= ITEMS)
 }
 
+// The place of the first item with a name.
+fn place_named(items: &[Item], name: [u8; 2]) -> Option<usize>
+    ensures { result ≡ position (λ x. bytes_eq x.name name) items.now }
+{
+    items.iter().position(|item| item.name == name)
+}
+
 // The place of the item that two characters name.
 pub fn find(a: u8, b: u8) -> Option<usize>
     ensures { result ≡ found a b }
 {
-    // A constant array is laid out at each use: here once, and not at each place.
-    let firsts = FIRST;
-    let seconds = SECOND;
-    let mut i = 0;
-    while i < ITEMS {
-        if firsts[i] == a && seconds[i] == b {
-            return Some(i);
-        }
-        i += 1;
-    }
-    None
+    place_named(&LIST, [a, b])
 }
 
 // The place of the item that has a register; past the list where none has it.
 pub fn place_of(register: u16) -> usize
     ensures { result ≡ place_of register }
 {
-    let line = if (register as usize) < MAP_SIZE {
-        register as usize
-    } else {
-        MAP_SIZE
-    };
-    PLACE_AT[line] as usize
+    PLACE_AT[(register as usize).min(MAP_SIZE)] as usize
 }
 
 // The place of the item that has a register.
@@ -190,12 +162,13 @@ pub fn find_register(register: u16) -> Option<usize>
     ensures { result ≡ found_by_register register }
 {
     let place = place_of(register);
-    if place < ITEMS { Some(place) } else { None }
+    (place < ITEMS).then_some(place)
 }
 
 // Whether a value is from the low to the high of the item at a place; no value is past the list.
 pub fn in_range(i: usize, value: i32) -> bool
     ensures { result ≡ in_range i value }
 {
-    low(i) <= value && value <= high(i)
+    let item = item_at(i);
+    item.low <= value && value <= item.high
 }

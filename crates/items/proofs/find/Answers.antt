@@ -1,50 +1,50 @@
--- `items::find`: a turn of the search's loop decides by the line at i, or leaves it to the lines after it.
-use Rattle.std.specs.Prelude.{Some}
-use Rattle.std.proofs.Common.{◌≡◌, ℕ, ◌+◌, ◌<◌, Bool, false, get_or, drop, arith, refl, sym, ap, ◌∙◌}
-use mathlib.Core.Bool.{cond}
-use mathlib.Core.List.{map}
-use native.Mathlib.Nat.{le_of_lt}
-use borrow.Author.Tests.{eq-eqb, ne_eqb}
-use lib.Dec.{eqb}
-use Rattle.items.specs.ItemList.{Item, items, item_list, item_at, lines, named, first_from, found}
-use Rattle.items.proofs.Lists.{column-at, search-turn}
+-- `items::find`: the first row with a name is that of the first item with it.
+use Rattle.std.specs.Prelude.{◌≡◌, ℕ, suc, ◌+◌, Bool, true, false, cond, not, nat_lt, length, [], ◌∷◌, List, Option, Some, None, map, eqb, position, bytes_eq}
+use Rattle.std.specs.List.{position_or_len}
+use Rattle.std.proofs.Common.{arith, refl, sym, ◌∙◌}
+use native.Mathlib.Nat.{zero-add}
+use mathlib.Core.Bool.{and-true}
+use borrow.Author.Tests.{lt-ltb, le-ltb, ltb-true, ltb-false}
+use Rattle.items.specs.declared.Item as declared
+use Rattle.items.specs.ItemList.{Item, found, item_list, named, first_from}
+use Rattle.items.specs.Rows.{row}
 use Rattle.items.proofs.find.Goals as goal
-use Rattle.items.proofs.find.Goals.{else-firsts-i-via-then-firsts-i+else-seconds-i, else-firsts-i-via-else-firsts-i}
 
-pub loop-i-init : goal.loop-i-init
+module _ (p : Item → Bool) (q : declared.Item → Bool) (same : (x : Item) → q (row x) ≡ p x) where
+  one-less : (k n : ℕ) → nat_lt (1 + k) (suc n) ≡ nat_lt k n
+  one-less k n = by (nat_lt k n) refl
+    where
+      by : (t : Bool) → nat_lt k n ≡ t → nat_lt (1 + k) (suc n) ≡ t
+      by true e = let h = ltb-true k n e in lt-ltb (1 + k) (suc n) (omega arith)
+      by false e = let h = ltb-false k n e in le-ltb (1 + k) (suc n) (omega arith)
+
+  -- in a list that starts at place i
+  found-from : List Item → ℕ → Option ℕ
+  found-from xs i = cond (nat_lt (position_or_len q (map row xs)) (length (map row xs))) (Some (i + position_or_len q (map row xs))) None
+
+  first : (xs : List Item) (i : ℕ) → found-from xs i ≡ first_from i p xs
+  unfolding found-from
+  first [] i = refl
+  first (x ∷ xs) i = by (first xs (suc i)) (q (row x)) refl
+    where
+      by : found-from xs (suc i) ≡ first_from (suc i) p xs → (t : Bool) → q (row x) ≡ t
+          → cond (nat_lt (cond (not t) (1 + position_or_len q (map row xs)) 0) (suc (length (map row xs))))
+          (Some (i + cond (not t) (1 + position_or_len q (map row xs)) 0)) None ≡ cond (p x) (Some i) (first_from (suc i) p xs)
+      by rest true e =
+          let z : i + 0 ≡ i = omega arith in
+          rw (sym (same x) ∙ e, lt-ltb 0 (suc (length (map row xs))) (omega arith), z)
+      by rest false e =
+          let z : i + (1 + position_or_len q (map row xs)) ≡ suc i + position_or_len q (map row xs) = omega arith in
+          rw (sym (same x) ∙ e, one-less (position_or_len q (map row xs)) (length (map row xs)), z) rest
+
+  first-place : (xs : List Item) → position q (map row xs) ≡ first_from 0 p xs
+  unfolding found-from
+  first-place xs = rw zero-add at (first xs 0)
+
+pub returns : goal.returns
 unfolding found
-loop-i-init c = (omega arith, refl)
-
--- whether the line at a place is named so, by what the two columns hold there: the second decides where the first is the same
-module _ (a b i : ℕ) (h : i < items) where
-  second-decides : {t : Bool} → get_or (map (λ (x : Item). x.first) lines) i 0 ≡ a
-      → eqb (get_or (map (λ (x : Item). x.second) lines) i 0) b ≡ t → named a b (item_at i) ≡ t
-  second-decides p q =
-      simp (eq-eqb _ _ (sym (column-at (λ (x : Item). x.first) i 0 (le_of_lt h)) ∙ p), ← column-at (λ (x : Item). x.second) i 0 (le_of_lt h)) q
-
-  first-differs : (get_or (map (λ (x : Item). x.first) lines) i 0 ≡ a → ⊥) → named a b (item_at i) ≡ false
-  first-differs p = simp (ne_eqb _ _ (λ e. p (column-at (λ (x : Item). x.first) i 0 (le_of_lt h) ∙ e)))
-
-  -- the line at i decides, or the lines after it do
-  turn : {t : Bool} → first_from i (named a b) (drop i item_list) ≡ found a b → named a b (item_at i) ≡ t
-      → cond t (Some i) (first_from (i + 1) (named a b) (drop (i + 1) item_list)) ≡ found a b
-  turn left e =
-      ap (λ (t : Bool). cond t (Some i) (first_from (i + 1) (named a b) (drop (i + 1) item_list))) (sym e)
-      ∙ sym (search-turn (named a b) item_list i h) ∙ left
-
-pub returns-then-seconds-i : goal.returns-then-seconds-i
-returns-then-seconds-i c =
-    let h = c.loop-i-test.true in
-    turn c.args.a c.args.b c.loop-i.i h c.loop-i.invariant.1
-    (second-decides c.args.a c.args.b c.loop-i.i h c.if-firsts-i.true (eq-eqb _ _ c.if-seconds-i.true))
-
-pub loop-i-preserved : goal.loop-i-preserved
-loop-i-preserved c =
-    let h = c.loop-i-test.true in
-    let other : named c.args.a c.args.b (item_at c.loop-i.i) ≡ false =
-    elim c.else-firsts-i.branch [
-      | else-firsts-i-via-then-firsts-i+else-seconds-i w ↦
-          second-decides c.args.a c.args.b c.loop-i.i h w.if-firsts-i.true (ne_eqb _ _ w.if-seconds-i.false)
-      | else-firsts-i-via-else-firsts-i w ↦ first-differs c.args.a c.args.b c.loop-i.i h w.if-firsts-i.false
-    ] in
-    (omega arith, turn c.args.a c.args.b c.loop-i.i h c.loop-i.invariant.1 other)
+returns c =
+    let a = c.args.a in
+    let b = c.args.b in
+    let same : (x : Item) → bytes_eq (row x).name (a ∷ b ∷ []) ≡ named a b x = λ x. rw (and-true (eqb x.second b)) in
+    c.place_named.ensures ∙ first-place (named a b) (λ (x : declared.Item). bytes_eq x.name (a ∷ b ∷ [])) same item_list

@@ -1,20 +1,23 @@
 -- `items::in_range`: the machine's comparisons with the two limits are those of the whole numbers.
-use Rattle.std.proofs.Common.{◌∙◌}
+use Rattle.std.proofs.Common.{◌≡◌, ◌∙◌, ap, arith, w32, to_z, of_z}
 use Rattle.sign.proofs.Laws.{same}
-use Rattle.items.specs.ItemList.{in_range}
+use Rattle.items.specs.declared.Item as declared
+use Rattle.items.specs.ItemList.{item_at, in_range}
 use Rattle.items.proofs.in_range.Goals as goal
 
-pub returns-then-low-value : goal.returns-then-low-value
+pub returns-then-item-value : goal.returns-then-item-value
 unfolding in_range
-returns-then-low-value c =
+returns-then-item-value c =
+    let x = c.item_at-item in
     let v = same c.args.value c.ranges.value.sfits in
-    let low = same c.low.result c.low.type_inv ∙ c.low.ensures in
-    let high = same c.high.result c.high.type_inv ∙ c.high.ensures in
-    simp (v, high, simp (v, low) at c.if-low-value.true)
+    let low : to_z w32 (of_z w32 x.result.low) ≡ (item_at c.args.i).low = same x.result.low (omega arith) ∙ ap (λ (r : declared.Item). r.low) x.ensures in
+    let high : to_z w32 (of_z w32 x.result.high) ≡ (item_at c.args.i).high = same x.result.high (omega arith) ∙ ap (λ (r : declared.Item). r.high) x.ensures in
+    simp (v, high, simp (v, low) at c.if-item-value.true)
 
-pub returns-else-low-value : goal.returns-else-low-value
+pub returns-else-item-value : goal.returns-else-item-value
 unfolding in_range
-returns-else-low-value c =
+returns-else-item-value c =
+    let x = c.item_at-item in
     let v = same c.args.value c.ranges.value.sfits in
-    let low = same c.low.result c.low.type_inv ∙ c.low.ensures in
-    simp (v, low, simp (v, low) at c.if-low-value.false)
+    let low : to_z w32 (of_z w32 x.result.low) ≡ (item_at c.args.i).low = same x.result.low (omega arith) ∙ ap (λ (r : declared.Item). r.low) x.ensures in
+    simp (v, low, simp (v, low) at c.if-item-value.false)
