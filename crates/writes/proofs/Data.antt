@@ -1,127 +1,67 @@
--- The writes that bytes of data ask for, by those that are left: one for each two bytes.
+-- The writes that bytes of data ask for, one for each two bytes: the first of them, and those behind it.
 -- Assumes nothing.
-use Rattle.std.specs.Prelude.{Option, Some, None}
-use mathlib.Core.Path.{◌≡◌, refl, sym, ap, ◌∙◌}
-use mathlib.Core.Bool.{Bool, true, false, cond}
-use mathlib.Core.List.{List, [], ◌∷◌, map}
-use Prim.Native.Nat.{ℕ, zero, suc, ◌+◌, ◌-◌, ◌*◌, ◌/◌, ◌≤◌, ◌<◌}
-use native.Mathlib.Nat.{add-zero}
-use native.Mathlib.Numerals.{add-one}
+use Rattle.std.specs.List.{list_all}
+use Rattle.std.specs.Fn.{Called}
+use Rattle.std.specs.Iterator.{ChecksAll, YieldsFirstBy}
+use Rattle.std.proofs.lemmas.Iterator.Consumers.{YieldsList-from_first}
+use Rattle.std.proofs.lemmas.Iterator.Search.{all_from_yields_List}
+use denote.Param.Members.{Mut}
+use mathlib.Core.Path.{◌≡◌, refl, sym, ap, ap₂, ◌∙◌}
+use mathlib.Core.Bool.{Bool, true, false, ◌&&◌}
+use mathlib.Core.List.{List, [], ◌∷◌}
+use Prim.Native.Nat.{ℕ, suc, ◌+◌, ◌-◌, ◌≤◌, ◌<◌, min}
 use native.Mathlib.Omega.{arith}
-use borrow.Author.Tests.{eq-eqb, ne_eqb}
-use lib.Dec.{eqb}
+use borrow.Author.Tests.{ltb-true, ltb-false}
+use lib.Dec.{ltb}
 use lib.IntN.{ℤ}
 use lib.ListN.{length, get_or, take, drop, length-drop}
-use lib.Seq.{drop-cons, take_all}
-use Rattle.items.specs.ItemList.{Item, items, map_size, lines, item_at, place_of}
-use Rattle.items.proofs.Lists.{values, column-at}
-use Rattle.items.proofs.Lookup.{place-small, held-inside}
-use Rattle.table.specs.Table.{stored}
+use lib.Seq.{take_all}
+use Rattle.items.specs.ItemList.{map_size, place_of}
+use Rattle.items.proofs.Lookup.{place-past}
 use Rattle.registers.specs.Register.{of_register, word}
-use Rattle.writes.specs.Writes.{Write, writes, each, stored_all, later, given}
+use Rattle.writes.specs.declared.Asked.{Asked}
+use Rattle.writes.specs.Asked.{write, left}
+use Rattle.writes.specs.Writes.{Write, writes, each}
 
 -- what is left of a body from a place on is the part that ends where the body ends
 pub to_the_end : (place : ℕ) (body : List ℕ) → take (length body - place) (drop place body) ≡ drop place body
 to_the_end place body = take_all (length body - place) (drop place body) (simp length-drop (omega arith))
 
--- the table of the map has each register's place, which is past the list at most
-pub held : (r : ℕ) → r < map_size → (get_or (values place_of (suc map_size)) r 0 ≡ place_of r) × (place_of r ≤ items)
-held r h = (held-inside r h, place-small r)
+-- one byte is no register
+pub writes-none : (r : ℕ) (bytes : List ℕ) → length bytes < 2 → writes r bytes ≡ []
+writes-none r [] s = refl
+writes-none r (high ∷ []) s = refl
+writes-none r (high ∷ low ∷ bytes) s = absurd (omega arith)
 
--- so a column has at that place what the list says of the register's item
-pub held-column : {A : Type 0} (f : Item → A) (r : ℕ) (d : A) → r < map_size
-    → get_or (map f lines) (get_or (values place_of (suc map_size)) r 0) d ≡ f (item_at (place_of r))
-held-column f r d h = let p = held r h in rw p.0 (column-at f (place_of r) d p.1)
+-- registers past the map are all no item's
+writes-past : (r s : ℕ) (bytes : List ℕ) → map_size ≤ r → map_size ≤ s → writes r bytes ≡ writes s bytes
+writes-past r s [] h k = refl
+writes-past r s (high ∷ []) h k = refl
+writes-past r s (high ∷ low ∷ bytes) h k =
+    ap₂ (λ (place : ℕ) (ws : List Write). record { place = place; value = of_register (word high low) } ∷ ws)
+    (place-past r h ∙ sym (place-past s k)) (writes-past (suc r) (suc s) bytes (omega arith) (omega arith))
 
-module _ (start : ℕ) (bytes : List ℕ) where
-  -- those for the registers from i behind the start on
-  abbrev pub left : ℕ → List Write
-  left i = writes (start + i) (drop (2 * i) bytes)
+-- the first of the writes, and those behind it: the walk stays at the last register that a number names
+pub writes-first : (r next place : ℕ) (value : ℤ) (bytes behind : List ℕ) → 2 ≤ length bytes → behind ≡ drop 2 bytes → next ≡ min (r + 1) 65535
+    → place ≡ place_of r → value ≡ of_register (word (get_or bytes 0 0) (get_or bytes 1 0))
+    → writes r bytes ≡ record { place = place; value = value } ∷ writes next behind
+writes-first r next place value [] behind h b n p v = absurd (omega arith)
+writes-first r next place value (high ∷ []) behind h b n p v = absurd (omega arith)
+writes-first r next place value (high ∷ low ∷ bytes) behind h b n p v =
+    rw (b, p, v)
+    (ap (λ (ws : List Write). record { place = place_of r; value = of_register (word high low) } ∷ ws) (by (ltb 65535 (suc r)) refl))
+  where
+    by : (far : Bool) → ltb 65535 (suc r) ≡ far → writes (suc r) bytes ≡ writes next bytes
+    by true e = writes-past (suc r) next bytes (omega (arith, ltb-true _ _ e)) (omega (arith, ltb-true _ _ e))
+    by false e = ap (λ (s : ℕ). writes s bytes) (omega (arith, ltb-false _ _ e))
 
-  -- the one for the register i behind the start
-  abbrev pub at : ℕ → Write
-  at i = record { place = place_of (start + i); value = of_register (word (get_or bytes (2 * i) 0) (get_or bytes (2 * i + 1) 0)) }
-
-  pub all_left : left 0 ≡ writes start bytes
-  all_left = ap (λ (r : ℕ). writes r bytes) (add-zero start)
-
-  pub one_left : (i : ℕ) → i < length bytes / 2 → left i ≡ at i ∷ left (i + 1)
-  one_left i h =
-      let next : start + (i + 1) ≡ suc (start + i) = omega arith in
-      let low : 2 * i + 1 ≡ suc (2 * i) = omega arith in
-      let behind : 2 * (i + 1) ≡ suc (suc (2 * i)) = omega arith in
-      rw (next, low, behind, drop-cons bytes (2 * i) 0 (omega arith), drop-cons bytes (suc (2 * i)) 0 (omega arith))
-
-  pub none_left : (i : ℕ) → length bytes / 2 ≤ i → left i ≡ []
-  none_left i h = short (start + i) (drop (2 * i) bytes) (simp length-drop (omega arith))
-    where
-      -- one byte is no register
-      short : (r : ℕ) (rest : List ℕ) → length rest < 2 → writes r rest ≡ []
-      short r [] s = refl
-      short r (high ∷ []) s = refl
-      short r (high ∷ low ∷ rest) s = absurd (omega arith)
-
-  -- a test that has held so far: it holds of each write exactly when it holds of each that is left
-  module _ (test : Write → Bool) where
-    abbrev pub HeldTo : ℕ → Type 0
-    HeldTo i = each test (left i) ≡ each test (writes start bytes)
-
-    pub held-to-none : HeldTo 0
-    held-to-none = ap (each test) all_left
-
-    pub fails : (i : ℕ) → HeldTo i → i < length bytes / 2 → test (at i) ≡ false → false ≡ each test (writes start bytes)
-    fails i so h f = sym (rw f at (ap (each test) (one_left i h))) ∙ so
-
-    pub holds_on : (i : ℕ) → HeldTo i → i < length bytes / 2 → test (at i) ≡ true → HeldTo (i + 1)
-    holds_on i so h t = sym (rw t at (ap (each test) (one_left i h))) ∙ so
-
-    pub held-to-end : (i : ℕ) → HeldTo i → length bytes / 2 ≤ i → true ≡ each test (writes start bytes)
-    held-to-end i so h = sym (ap (each test) (none_left i h)) ∙ so
-
-  -- what is stored so far: storing what is left makes the table that storing all makes
-  module _ (t : List ℤ) where
-    abbrev pub StoredTo : List ℤ → ℕ → Type 0
-    StoredTo s i = stored_all s (left i) ≡ stored_all t (writes start bytes)
-
-    pub stored-none : StoredTo t 0
-    stored-none = ap (stored_all t) all_left
-
-    pub stores-on : (s : List ℤ) (i : ℕ) → StoredTo s i → i < length bytes / 2
-        → StoredTo (stored s (at i).place (at i).value) (i + 1)
-    stores-on s i so h = sym (ap (stored_all s) (one_left i h)) ∙ so
-
-    pub stored-to-end : (s : List ℤ) (i : ℕ) → StoredTo s i → length bytes / 2 ≤ i → s ≡ stored_all t (writes start bytes)
-    stored-to-end s i so h = sym (ap (stored_all s) (none_left i h)) ∙ so
-
-  -- what is given by the writes that are left: the last that is the item's counts, so what they give is given by all
-  module _ (item : ℕ) where
-    abbrev pub GivenFrom : ℕ → Option ℤ → Type 0
-    GivenFrom i g = given (left i) item ≡ g
-
-    pub gives_none : (i : ℕ) → length bytes / 2 ≤ i → GivenFrom i None
-    gives_none i h = ap (λ (ws : List Write). given ws item) (none_left i h)
-
-    -- where those behind it give nothing, this one decides
-    gives-here : (i : ℕ) → GivenFrom (i + 1) None → i < length bytes / 2
-        → GivenFrom i (cond (eqb (at i).place item) (Some (at i).value) None)
-    gives-here i so h =
-        ap (λ (ws : List Write). given ws item) (one_left i h)
-        ∙ ap (λ (g : Option ℤ). later g (cond (eqb (at i).place item) (Some (at i).value) None)) so
-
-    pub gives-this : (i : ℕ) → GivenFrom (i + 1) None → i < length bytes / 2 → (at i).place ≡ item → GivenFrom i (Some (at i).value)
-    gives-this i so h e = gives-here i so h ∙ rw (eq-eqb (at i).place item e)
-
-    pub gives-on : (i : ℕ) → GivenFrom (i + 1) None → i < length bytes / 2 → ((at i).place ≡ item → ⊥) → GivenFrom i None
-    gives-on i so h e = gives-here i so h ∙ rw (ne_eqb (at i).place item e)
-
-    -- a value that is given stays given by more of the writes
-    pub value_stays : (i : ℕ) {v : ℤ} → i ≤ length bytes / 2 → GivenFrom i (Some v) → given (writes start bytes) item ≡ Some v
-    value_stays zero h g = ap (λ (ws : List Write). given ws item) (sym all_left) ∙ g
-    value_stays (suc i) {v} h g =
-        let next : GivenFrom (i + 1) (Some v) = rw (add-one i) g in
-        value_stays i (omega arith)
-        (ap (λ (ws : List Write). given ws item) (one_left i (omega arith))
-        ∙ ap (λ (x : Option ℤ). later x (cond (eqb (at i).place item) (Some (at i).value) None)) next)
-
-    pub none-given : GivenFrom 0 None → given (writes start bytes) item ≡ None
-    none-given g = ap (λ (ws : List Write). given ws item) (sym all_left) ∙ g
+-- what a walk that makes a test of each write comes to
+pub each-checked : {F : Type 0} {g : Mut F ((ℕ × ℤ) × Unit {0}) Bool} (test : Write → Bool) (ws : List Write) (s u : Asked) (f : F) (r : Bool)
+    → left s ≡ ws → ChecksAll (YieldsFirstBy write left) g s f r u
+    → ((x : ℕ × ℤ) (b : Bool) (q : F) → Called g f (x, tt) b q → (q ≡ f) × (b ≡ test (write x))) → r ≡ each test ws
+each-checked test ws s u f r e ran closure =
+    all_from_yields_List test u f r ran (YieldsList-from_first write left {s = s} ws e) closure ∙ same-test ws
+  where
+    same-test : (ws : List Write) → list_all test ws ≡ each test ws
+    same-test [] = refl
+    same-test (w ∷ ws) = ap (λ (b : Bool). test w && b) (same-test ws)
