@@ -24,7 +24,7 @@ use Rattle.capture.proofs.Walk.{sound, fault-reached}
 use Rattle.playback.specs.Playback.{played}
 use Rattle.playback.specs.Written.{last_write}
 use Rattle.playback.proofs.Frames.{start_fine, handed-writes, read-only-writes}
-use Rattle.playback.proofs.Played.{play-capture}
+use Rattle.playback.proofs.Played.{play_capture}
 use Rattle.playback.proofs.Claims.{playback-claimed}
 use Rattle.last_write.specs.LastWrite.{Question, place_after, written_before, passed_over, stop, write_found, undamaged}
 use Rattle.last_write.specs.LastWrite.{ask_number, last_written, Answers}
@@ -55,7 +55,7 @@ played-entry : (t : List ℤ) (address : ℕ) (c : List ℕ) → length t ≡ it
 played-entry t address c l a fine i s h =
     let buffer = replicate {A = ℕ} least_buffer 0 in
     let room : least_buffer ≤ length buffer = omega (arith, length-replicate {A = ℕ} least_buffer 0) in
-    ap (λ (u : List ℤ). entry u i) ((playback-claimed t address c).any_buffer (play-capture t address c l a ∙ fine) buffer room)
+    ap (λ (u : List ℤ). entry u i) ((playback-claimed t address c).any_buffer (play_capture t address c l a ∙ fine) buffer room)
     ∙ handed-writes (frames c) (record { table = start_values; buffer = buffer; address = address }) (start_fine address buffer a room) i s h
 
 module _ (q : Question) (c : List ℕ) (a : is_address q.address ≡ true) (i : listed q.item ≡ true) (fine : capture_fault c ≡ none) where
