@@ -2,7 +2,7 @@
 #![tactic(auto)]
 
 ghost use Rattle.std.specs.Prelude.{◌≡◌, [], ◌∷◌, ◌^◌, ◌<◌, set};
-ghost use Rattle.kept.specs.Bytes.{from_low, low_first};
+ghost use Rattle.kept.specs.Bytes.{from_low};
 ghost use Rattle.kept.specs.Kept.{places, up_to};
 
 // How many characters are cut as one number: as many as 64 bits have bytes.
@@ -12,39 +12,7 @@ pub const PLACES: usize = 8;
 pub fn from_low(a: u8, b: u8, c: u8, d: u8) -> u32
     ensures { result ≡ from_low (a ∷ b ∷ c ∷ d ∷ []) }
 {
-    a as u32 + 256 * (b as u32 + 256 * (c as u32 + 256 * (d as u32)))
-}
-
-// The number that all of them make.
-fn number_of(kept: [u8; PLACES]) -> u64
-    ensures { result ≡ from_low kept }
-{
-    let low = from_low(kept[0], kept[1], kept[2], kept[3]);
-    let high = from_low(kept[4], kept[5], kept[6], kept[7]);
-    low as u64 + 0x1_0000_0000 * (high as u64)
-}
-
-// The bytes of a number, the low one first.
-fn low_first(n: u64) -> [u8; PLACES]
-    ensures { result ≡ low_first places n }
-{
-    let n1 = n / 256;
-    let n2 = n1 / 256;
-    let n3 = n2 / 256;
-    let n4 = n3 / 256;
-    let n5 = n4 / 256;
-    let n6 = n5 / 256;
-    let n7 = n6 / 256;
-    [
-        (n % 256) as u8,
-        (n1 % 256) as u8,
-        (n2 % 256) as u8,
-        (n3 % 256) as u8,
-        (n4 % 256) as u8,
-        (n5 % 256) as u8,
-        (n6 % 256) as u8,
-        (n7 % 256) as u8,
-    ]
+    u32::from_le_bytes([a, b, c, d])
 }
 
 // The first number that so many bytes have no room for.
@@ -63,7 +31,7 @@ pub fn up_to(kept: [u8; PLACES], count: u8) -> [u8; PLACES]
     if PLACES <= count as usize {
         return kept;
     }
-    low_first(number_of(kept) % past_bytes(count))
+    (u64::from_le_bytes(kept) % past_bytes(count)).to_le_bytes()
 }
 
 // One more character is kept in its place, if there is one left.
@@ -72,6 +40,7 @@ pub fn keep(kept: [u8; PLACES], count: u8, c: u8) -> [u8; PLACES]
 {
     let mut more = kept;
     let place = count as usize;
+    // `get_mut` is not proved here: nothing is told of the array that its reference wrote to once it is handed back
     if place < PLACES {
         more[place] = c;
     }

@@ -3,15 +3,12 @@
 use mathlib.Core.Path.{◌≡◌, refl}
 use mathlib.Core.Bool.{true, false, and-false}
 use mathlib.Core.List.{List, [], ◌∷◌, ◌++◌}
-use Prim.Native.Nat.{ℕ, ◌+◌, ◌≤◌, ◌<◌}
+use Prim.Native.Nat.{ℕ, ◌≤◌, ◌<◌}
 use native.Mathlib.Nat.{mod-lt}
-use native.Mathlib.Numerals.{add-one}
 use native.Mathlib.Omega.{arith}
 use borrow.Author.Tests.{leb-true, le-leb, lt-leb}
 use lib.Bits.{bit_xor, xor_lt}
 use lib.Dec.{leb, lit<}
-use lib.ListN.{length, get_or, drop}
-use lib.Seq.{drop-cons}
 use Rattle.numbers.proofs.Tests.{both}
 use Rattle.line.specs.Line.{top_bit, low_seven, bcc_from, within, printable}
 
@@ -37,12 +34,6 @@ low-seven-small c = mod-lt c (lit< tt)
 -- a BCC that is a character stays one
 pub taken-small : (sum c : ℕ) → sum < top_bit → bit_xor sum (low_seven c) < top_bit
 taken-small sum c h = xor_lt 7 sum (low_seven c) h (low-seven-small c)
-
--- the character at a place is the next to be taken in
-pub bcc-next : (sum : ℕ) (cs : List ℕ) (i : ℕ) → i < length cs
-    → bcc_from sum (drop i cs) ≡ bcc_from (bit_xor sum (get_or cs i 0)) (drop (i + 1) cs)
-unfolding bcc_from
-bcc-next sum cs i h = rw (add-one, drop-cons cs i 0)
 
 -- the character that comes last is taken in last
 pub bcc-last : (sum : ℕ) (cs : List ℕ) (c : ℕ) → bcc_from sum (cs ++ (c ∷ [])) ≡ bit_xor (bcc_from sum cs) c

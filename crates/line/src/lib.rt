@@ -38,7 +38,7 @@ pub fn keeps(structure: u8, byte: u8) -> bool
     if structure == 0 {
         return byte < TOP_BIT;
     }
-    (u8::count_ones(byte) % 2 == 0) == (structure == 1)
+    (byte.count_ones() % 2 == 0) == (structure == 1)
 }
 
 // The low seven bits, with the top bit added unless the structure is kept: in what is heard it is the mark of a line error,
@@ -71,9 +71,5 @@ pub fn sent(structure: u8, c: u8) -> u8
 pub fn bcc(chars: &[u8]) -> u8
     ensures { result ≡ bcc chars.now }
 {
-    let mut sum: u8 = 0;
-    for i in 0..chars.len() {
-        sum ^= chars[i];
-    }
-    sum
+    chars.iter().fold(0, |sum, c| sum ^ c)
 }

@@ -12,25 +12,17 @@ pub fn less(a: i32, b: i32) -> bool
     a < b
 }
 
-// The size of v, without its sign. It goes by way of 64 bits because the least i32 has a size that no i32 holds.
+// The size of v, without its sign.
 pub fn size(v: i32) -> u32
     ensures { result ≡ nat_abs v }
 {
-    if v < 0 {
-        (0 - (v as i64)) as u32
-    } else {
-        v as u32
-    }
+    v.unsigned_abs()
 }
 
 // The number of this size, below zero where minus says so; 0 where the size is 2^31 or more.
 pub fn make(minus: bool, size: u32) -> i32
     ensures { result ≡ made minus size }
 {
-    if size < 2147483648 {
-        let v = size as i32;
-        if minus { 0 - v } else { v }
-    } else {
-        0
-    }
+    let v = i32::try_from(size).unwrap_or(0);
+    if minus { -v } else { v }
 }

@@ -1,15 +1,16 @@
--- The loop takes in the next character, and at its end none is left.
-use Rattle.std.proofs.Common.{◌≤◌, length, sym, ◌∙◌, arith}
-use lib.ListN.{drop_of_length-le}
+-- The BCC is a fold of the characters.
+use Rattle.std.specs.List.{fold}
+use Rattle.std.specs.Int.Bits.{bit_xor}
+use Rattle.std.proofs.Common.{◌≡◌, ℕ, List, [], ◌∷◌, refl, ◌∙◌, rules}
 use Rattle.line.specs.Line.{bcc_from}
-use Rattle.line.proofs.Laws.{bcc-next}
 use Rattle.line.proofs.bcc.Goals as goal
 
-pub loop-i-preserved : goal.loop-i-preserved
-loop-i-preserved c = sym (bcc-next c.loop-i.sum c.args.chars.now c.loop-i.i (omega arith)) ∙ c.loop-i.invariant
+folded : (sum : ℕ) (cs : List ℕ) → fold bit_xor sum cs ≡ bcc_from sum cs
+unfolding bcc_from
+folded sum [] = refl
+folded sum (c ∷ cs) = folded (bit_xor sum c) cs
 
 pub returns : goal.returns
-unfolding bcc_from
 returns c =
-    let end : length c.args.chars.now ≤ c.loop-i.i = omega arith in
-    rw drop_of_length-le at c.loop-i.invariant
+    let e : c.fold.result ≡ fold bit_xor 0 c.args.chars.now = search rules in
+    e ∙ folded 0 c.args.chars.now
