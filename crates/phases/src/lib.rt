@@ -31,6 +31,16 @@ pub const BCC_DUE: u8 = 8;
 
 pub const ANSWERED: u8 = 9;
 
+// What a link has that the decision looks at: the kept identifier characters and the item that was sent last, as far as the phase
+// uses them.
+#[derive(Clone, Copy)]
+pub struct Standing {
+    pub phase: u8,
+    pub first: u8,
+    pub second: u8,
+    pub item: u8,
+}
+
 // What a byte asks for.
 #[derive(Clone, Copy)]
 pub enum Act {
@@ -143,26 +153,25 @@ fn at_answered(c: u8) -> Act
     }
 }
 
-// What a byte asks for in a phase. Of last (the number of the list's last item), first and second (the kept identifier
-// characters), item (the one sent last) and address it uses those that the phase has. The BCC comes before EOT: a byte in its
-// place is the BCC, also one that looks like EOT.
+// What a byte asks for, where last is the number of the list's last item. The BCC comes before EOT: a byte in its place is the
+// BCC, also one that looks like EOT.
 #[tactic(auto, unfolding(crate::specs::Decision::decided))]
-pub fn decide(last: u8, phase: u8, first: u8, second: u8, item: u8, address: u8, c: u8) -> Act
-    ensures { result ≡ decided last phase first second item address c }
+pub fn decide(last: u8, at: Standing, address: u8, c: u8) -> Act
+    ensures { result ≡ decided last at.phase at.first at.second at.item address c }
 {
-    if phase == BCC_DUE {
+    if at.phase == BCC_DUE {
         return Act::Judge(c);
     }
     if c == EOT {
         return Act::Go(FIRST_DIGIT);
     }
-    match phase {
+    match at.phase {
         FIRST_DIGIT => at_digit(address / 10, SECOND_DIGIT, c),
         SECOND_DIGIT => at_digit(address % 10, ADDRESSED, c),
         ADDRESSED => at_addressed(c),
-        ONE_CHARACTER => at_one_character(first, c),
-        TWO_CHARACTERS => at_two_characters(first, second, c),
-        WAITING => at_waiting(last, item, c),
+        ONE_CHARACTER => at_one_character(at.first, c),
+        TWO_CHARACTERS => at_two_characters(at.first, at.second, c),
+        WAITING => at_waiting(last, at.item, c),
         TEXT => at_text(c),
         ANSWERED => at_answered(c),
         _ => Act::Go(REST),

@@ -35,10 +35,6 @@ steps-by {r = r} {b = b} {a = a} e h = subst⁻¹ (λ (s : Step). Steps s r b a)
 pub does-by : {o o' : Outcome} {r : Stepped} {b a : List ℕ} {t : List ℤ} → o ≡ o' → Does o' r b a t → Does o r b a t
 does-by {r = r} {b = b} {a = a} {t = t} e h = subst⁻¹ (λ (o : Outcome). Does o r b a t) e h
 
--- what is performed for an equal act
-pub done-by : (l : Link) {x y : Act} (t : List ℤ) (structure time : ℕ) → x ≡ y → performed l t structure time x ≡ performed l t structure time y
-done-by l t structure time e = ap (performed l t structure time) e
-
 -- ---- an item's number text fits, or not
 
 module _ (structure time : ℕ) (t : List ℤ) (i : ℕ) (w : Result (List ℕ) Refusal) (e : written_as width w ≡ item_text t i) where
@@ -67,26 +63,13 @@ module _ (structure : ℕ) (t : List ℤ) (l : Link) (c : ℕ) {v : Verdict} (j 
       let k = stores (xu_of t) l.mark l.bcc l.count l.kept c s (subst (Judges (xu_of t) l.mark l.bcc l.count l.kept c) e j) in
       rw (k.1, k.2) (simp (eq-eqb _ _ k.0))
 
-  pub judged-refused : {r : Refusal} → v ≡ Err r
+  pub judged_refused : {r : Refusal} → v ≡ Err r
       → judged structure t l c ≡ keeping t (sends structure NAK (in_phase phases.answered) (number_of r))
-  judged-refused {r} e =
+  judged_refused {r} e =
       let k = refuses (xu_of t) l.mark l.bcc l.count l.kept c r (subst (Judges (xu_of t) l.mark l.bcc l.count l.kept c) e j) in
       rw k.0 (simp (ne_eqb _ none k.1))
 
 -- ---- the caller's faults
-
-module _ (l : Link) (room : ℕ) (settings : Bool) where
-  pub step-short : room < least_buffer → step_fault l room settings ≡ short_buffer
-  unfolding step_fault
-  step-short h = simp (lt-leb least_buffer room h)
-
-  pub step-setting : least_buffer ≤ room → settings ≡ false → step_fault l room settings ≡ bad_setting
-  unfolding step_fault
-  step-setting h s = simp (le-leb least_buffer room h, s)
-
-  pub step-outside : least_buffer ≤ room → settings ≡ true → in_limits l ≡ false → step_fault l room settings ≡ bad_state
-  unfolding step_fault
-  step-outside h s e = simp (le-leb least_buffer room h, s, e)
 
 module _ (t : List ℤ) (step : ℕ) {f : ℕ} (e : f ≡ table_fault t) where
   pub step-next : f ≡ none → first_met (table_fault t ∷ step ∷ []) ≡ step

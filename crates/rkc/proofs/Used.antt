@@ -72,8 +72,8 @@ module _ (xu count : ℕ) (kept : List ℕ) where
     has-identifier z = test-held _ under_two (omega arith) (none-at (block_numbers xu mark sum count kept c) 2 z)
 
 -- so the answer does not look at them
-pub judged-up-to : (structure : ℕ) (t : List ℤ) (l : Link) (c : ℕ) → judged structure t (as_block l) c ≡ judged structure t l c
-judged-up-to structure t l c = by (leb identifier_length l.count) refl
+pub judged_up_to : (structure : ℕ) (t : List ℤ) (l : Link) (c : ℕ) → judged structure t (as_block l) c ≡ judged structure t l c
+judged_up_to structure t l c = by (leb identifier_length l.count) refl
   where
     number : refusing t (as_block l) c ≡ refusing t l c
     number = number-up-to (xu_of t) l.count l.kept l.mark l.bcc c

@@ -36,34 +36,33 @@ impl Link {
         self.count <= MOST_COUNTED && self.bcc < TOP_BIT && all_characters(&front)
     }
 
-    // Whether the fields that the phase uses are within their limits. A block's phases are told first, since most bytes are a block's.
+    // Whether the fields that the phase uses are within their limits. A block's phases are told first, since most bytes are a block's:
+    // as an arm of the match they take a byte of text three instructions more.
+    #[tactic(auto, unfolding(crate::specs::State::in_limits))]
     fn in_limits(self) -> bool
         ensures { result ≡ in_limits self }
     {
-        let phase = self.phase;
-        if TEXT <= phase && phase <= BCC_DUE {
+        if TEXT <= self.phase && self.phase <= BCC_DUE {
             return self.block_in_limits();
         }
-        let kept = self.kept;
-        match phase {
-            ONE_CHARACTER => kept[0] < TOP_BIT,
-            TWO_CHARACTERS => kept[0] < TOP_BIT && kept[1] < TOP_BIT,
+        match self.phase {
+            ONE_CHARACTER => self.kept[0] < TOP_BIT,
+            TWO_CHARACTERS => self.kept[0] < TOP_BIT && self.kept[1] < TOP_BIT,
             WAITING => items::listed(self.item as u32),
-            _ => phase <= ANSWERED,
+            phase => phase <= ANSWERED,
         }
     }
 
-    // What every step looks at, in this order: buffer, settings, state. Buffer and settings are told apart only in a call
-    // that has one of the two faults, so that the others take no time for it.
+    // What every step looks at, in this order: buffer, settings, state.
+    #[tactic(auto, unfolding(crate::specs::Outcome::step_fault))]
     fn step_fault(self, room: usize, settings: bool) -> Result<(), Refusal>
         ensures { number_given result ≡ step_fault self room settings }
     {
-        if room < LEAST_BUFFER || !settings {
-            return if room < LEAST_BUFFER {
-                Err(Refusal::ShortBuffer)
-            } else {
-                Err(Refusal::BadSetting)
-            };
+        if room < LEAST_BUFFER {
+            return Err(Refusal::ShortBuffer);
+        }
+        if !settings {
+            return Err(Refusal::BadSetting);
         }
         if !self.in_limits() {
             return Err(Refusal::BadState);

@@ -17,11 +17,13 @@ ghost use Rattle.rkc.specs.Promise.{Leads, Idles};
 
 use block::MOST_KEPT;
 use numbers::Refusal;
-use phases::{REST, WAITING};
+use phases::{REST, Standing, WAITING};
 use replies::{handed_back, quit, silent};
 use states::in_phase;
 use steps::elapsed;
 
+// The state of a link. Its phase is a number of `phases`, and may be any byte: one that is handed in from C with none of them is
+// handed back as it came, with BadState.
 #[derive(Clone, Copy)]
 pub struct Link {
     pub phase: u8,
@@ -33,7 +35,8 @@ pub struct Link {
     pub time: u32,
 }
 
-// What a step hands back: the state, the number, and how many bytes of the buffer are the reply.
+// What a step hands back: the state, the number, and how many bytes of the buffer are the reply. EOT and NAK are sent together with
+// the number of a refusal, so it stands beside the reply and not in its place.
 #[derive(Clone, Copy)]
 pub struct Stepped {
     pub link: Link,
@@ -76,13 +79,16 @@ impl Link {
         }) result reply.new table.new }
     {
         if let Err(refusal) = self.byte_fault(&table[..], reply.len(), address, structure) {
-            return handed_back(self, refusal.number());
+            return handed_back(self, refusal);
         }
-        let kept = self.kept;
+        let standing = Standing {
+            phase: self.phase,
+            first: self.kept[0],
+            second: self.kept[1],
+            item: self.item,
+        };
         let c = line::heard(structure, byte);
-        let act = phases::decide(
-            LAST_ITEM, self.phase, kept[0], kept[1], self.item, address, c,
-        );
+        let act = phases::decide(LAST_ITEM, standing, address, c);
         self.perform(act, table, reply, structure, time)
     }
 
@@ -93,7 +99,7 @@ impl Link {
             result reply.new }
     {
         if let Err(refusal) = self.idle_fault(reply.len(), structure) {
-            return handed_back(self, refusal.number());
+            return handed_back(self, refusal);
         }
         if self.phase == WAITING && PATIENCE <= elapsed(time, self.time) {
             return quit(reply, structure, Refusal::TimedOut);

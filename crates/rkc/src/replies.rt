@@ -1,4 +1,5 @@
-// What is sent: nothing, one character, or an item's data reply.
+// What is sent: nothing, one character, or an item's data reply. Buffer and structure stay two parameters: of a struct that held the
+// buffer, each promise would have to say that it still holds the same one.
 ghost use Rattle.std.specs.Prelude.{◌≡◌, ◌<◌, ◌≤◌, map, length};
 ghost use Rattle.std.proofs.lemmas.List.Edits.{sets};
 ghost use Rattle.numbers.specs.Refusals.{number_of};
@@ -12,21 +13,26 @@ use line::{EOT, ETX, STX};
 use numbers::{NONE, Refusal};
 use phases::REST;
 
-// Nothing is sent, and a number is given.
-pub(crate) fn handed_back(state: Link, number: u8) -> Stepped
-    ensures { result ≡ record { link = state; number = number; len = 0 } }
+// A call with a fault: the state as it came, and the fault's number.
+pub(crate) fn handed_back(state: Link, fault: Refusal) -> Stepped
+    ensures { result ≡ record { link = state; number = number_of fault; len = 0 } }
 {
     Stepped {
         link: state,
-        number,
+        number: fault.number(),
         len: 0,
     }
 }
 
+// Nothing is sent.
 pub(crate) fn silent(link: Link) -> Stepped
     ensures { result ≡ record { link = link; number = 0; len = 0 } }
 {
-    handed_back(link, NONE)
+    Stepped {
+        link,
+        number: NONE,
+        len: 0,
+    }
 }
 
 // The characters go to the buffer's front, each as it is sent.

@@ -93,16 +93,16 @@ fn marked(mark: bool, c: u8) -> bool
 
 impl Link {
     // The state with all that its phase doesn't use at 0.
+    #[tactic(auto, unfolding(crate::specs::State::used))]
     pub(crate) fn used(self) -> Link
         ensures { result ≡ used self }
     {
-        let kept = self.kept;
         match self.phase {
-            ONE_CHARACTER => holding_one(kept[0]),
-            TWO_CHARACTERS => holding_two(kept[0], kept[1]),
+            ONE_CHARACTER => holding_one(self.kept[0]),
+            TWO_CHARACTERS => holding_two(self.kept[0], self.kept[1]),
             WAITING => waiting_on(self.item, self.time),
             TEXT..=BCC_DUE => {
-                let front = kept::up_to(kept, self.count);
+                let front = kept::up_to(self.kept, self.count);
                 block(self.phase, self.count, self.bcc, self.mark, front)
             }
             _ => in_phase(self.phase),
@@ -110,6 +110,7 @@ impl Link {
     }
 
     // The block with one more character of its text, as it was heard.
+    #[tactic(auto, unfolding(crate::specs::State::with_more))]
     pub(crate) fn with_more(self, c: u8) -> Link
         ensures { result ≡ with_more (as_block self) c }
     {
@@ -126,6 +127,7 @@ impl Link {
     }
 
     // The block whose text has ended.
+    #[tactic(auto, unfolding(crate::specs::State::with_end))]
     pub(crate) fn with_end(self) -> Link
         ensures { result ≡ with_end (as_block self) }
     {

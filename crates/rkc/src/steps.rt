@@ -47,6 +47,7 @@ fn poll(table: &[i32], reply: &mut [u8], structure: u8, time: u32, a: u8, b: u8)
 
 impl Link {
     // The block is judged: ACK with the item stored, or NAK.
+    #[tactic(auto, using(crate::proofs::Cases::judged_refused))]
     fn judge(self, table: &mut [i32], reply: &mut [u8], structure: u8, c: u8) -> Stepped
         requires { least_buffer ≤ length reply.old }
         ensures { Does (judged structure table.old self c) result
@@ -63,6 +64,7 @@ impl Link {
     }
 
     // What an act says is done. Only in a block does an act ask for the state.
+    #[tactic(auto, using(crate::proofs::Used::judged_up_to), unfolding(crate::specs::Outcome::performed))]
     pub(crate) fn perform(
         self,
         act: Act,

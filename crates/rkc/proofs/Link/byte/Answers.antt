@@ -1,5 +1,5 @@
 -- `Link::byte` meets its contract: what the byte asks for is performed, or a fault hands all back.
-use Rattle.std.proofs.Common.{sym, refl, ◌∙◌}
+use Rattle.std.proofs.Common.{sym, refl}
 use Rattle.numbers.proofs.Refusals.{refusal-met}
 use Rattle.rkc.specs.Outcome.{ByteCall, byte_fault}
 use Rattle.rkc.proofs.Cases.{does-by, byte-none, received-fault, received-act}
@@ -27,4 +27,4 @@ returns-in-Err c =
     let a = c.args in
     let call : ByteCall = record { link = a.self; table = a.table.now; buffer = a.reply.now; address = a.address; structure = a.structure; time = a.time; byte = a.byte } in
     does-by (received-fault call c.in-Err.ensures (refusal-met c.in-Err.refusal))
-    (record { steps = record { back = c.handed_back.ensures ∙ rw c.number.ensures; sent = refl }; left = refl })
+    (record { steps = record { back = c.handed_back.ensures; sent = refl }; left = refl })

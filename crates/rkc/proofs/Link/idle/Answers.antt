@@ -14,7 +14,7 @@ returns-in-Err c =
     let a = c.args in
     let call : IdleCall = record { link = a.self; buffer = a.reply.now; structure = a.structure; time = a.time } in
     steps-by (idled-fault call c.in-Err.ensures (refusal-met c.in-Err.refusal))
-    (record { back = c.handed_back.ensures ∙ rw c.number.ensures; sent = refl })
+    (record { back = c.handed_back.ensures; sent = refl })
 
 pub quit-requires : goal.quit-requires
 quit-requires c =
