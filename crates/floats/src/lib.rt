@@ -9,10 +9,8 @@ const MOST_DECIMALS: u8 = 3;
 
 const TENS: [u16; MOST_DECIMALS as usize + 1] = [1, 10, 100, 1000];
 
-// Single precision has every whole number from the one of these to the other.
-const FIRST_EXACT: i32 = -16777216;
-
-const LAST_EXACT: i32 = 16777216;
+// Single precision has every whole number up to this size.
+const MOST_EXACT: u32 = 16777216;
 
 // 10 to the power of some decimals.
 fn power(decimals: u8) -> u16
@@ -26,7 +24,7 @@ fn power(decimals: u8) -> u16
 fn exact(value: i32, decimals: u8) -> bool
     ensures { result ≡ exact value decimals }
 {
-    (FIRST_EXACT <= value) & (value <= LAST_EXACT) & (decimals <= MOST_DECIMALS)
+    (value.unsigned_abs() <= MOST_EXACT) & (decimals <= MOST_DECIMALS)
 }
 
 // The four bytes of the float, as one number: one division, rounded once. 0 where number or power is not exact, as none is in a good table.
@@ -34,7 +32,7 @@ pub fn bits(value: i32, decimals: u8) -> u32
     ensures { result ≡ float_bits value decimals }
 {
     if exact(value, decimals) {
-        f32::to_bits(value as f32 / power(decimals) as f32)
+        (value as f32 / power(decimals) as f32).to_bits()
     } else {
         0
     }
