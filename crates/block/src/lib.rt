@@ -20,6 +20,7 @@ pub const MOST_KEPT: usize = IDENTIFIER_LENGTH + text::WIDTH;
 
 // The verdict on a block, where XU gives so many decimals: one that was marked or not, with the BCC of its text and ETX, the count of
 // its characters, those that were kept, and the byte in the BCC's place as it was heard.
+#[tactic(auto, using(crate::proofs::Cases::marked, crate::proofs::Cases::wrong, crate::proofs::Cases::short, crate::proofs::Cases::unknown, crate::proofs::Cases::long, crate::proofs::Cases::unread, crate::proofs::Cases::protected))]
 pub fn judge(
     xu: u8,
     mark: bool,
