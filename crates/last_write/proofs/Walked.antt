@@ -1,14 +1,16 @@
 -- The walk back as far as it has come, and the answer where it stops.
 -- Assumes nothing.
-use Rattle.std.specs.Prelude.{Option, None, ℤ, Err}
+use Rattle.std.specs.Prelude.{Option, Some, None, ℤ, Err}
+use Rattle.std.specs.Borrow.{Bor}
+use Rattle.std.specs.Option.{is_some}
 use mathlib.Core.Path.{◌≡◌, refl, sym, ap, ◌∙◌}
-use mathlib.Core.Bool.{true, false, cond, ◌&&◌, and-false}
+use mathlib.Core.Bool.{Bool, true, false, cond, ◌&&◌, and-false}
 use mathlib.Core.List.{List}
 use Prim.Native.Nat.{ℕ, zero, suc, ◌+◌, ◌-◌, ◌≤◌, ◌<◌}
 use native.Mathlib.Numerals.{add-one}
 use native.Mathlib.Omega.{arith}
 use borrow.Author.Count.{below_more}
-use borrow.Author.Tests.{lt-leb}
+use borrow.Author.Tests.{eqb-true, eq-eqb, lt-leb}
 use lib.Dec.{eqb, leb}
 use lib.ListN.{length}
 use Rattle.numbers.specs.declared.Refusal.{Refusal}
@@ -16,7 +18,7 @@ use Rattle.numbers.specs.declared.Refusal.TheVariants.{BadSetting, NoSuchItem, B
 use Rattle.numbers.specs.Numbers.{none, unless, bad_setting}
 use Rattle.numbers.specs.Refusals.{number_of}
 use Rattle.numbers.proofs.Refusals.{refusal-met}
-use Rattle.numbers.proofs.Tests.{chosen}
+use Rattle.numbers.proofs.Tests.{contrary, chosen}
 use Rattle.numbers.proofs.Order.{last-met, passed, is-refused, is-done, either_way}
 use Rattle.items.specs.ItemList.{listed}
 use Rattle.table.specs.Table.{no_such_item}
@@ -24,7 +26,9 @@ use Rattle.writes.specs.Writes.{is_value}
 use Rattle.call.specs.Call.{is_address}
 use Rattle.capture.specs.Format.{bad_capture, longest_capture, longest_frame, size_bytes, size, begins, record_ends, frame_before}
 use Rattle.capture.specs.Format.{trailer_begins, trailer_right, count}
-use Rattle.capture.proofs.Walk.{ends, begun}
+use Rattle.capture.specs.declared.Back.{Back}
+use Rattle.capture.specs.Back.{Steps}
+use Rattle.capture.proofs.Walk.{ends, nearer, begun}
 use Rattle.playback.specs.Written.{wrote}
 use Rattle.last_write.specs.LastWrite.{Question, place_after, written_before, stops_at, passed_over, stop, write_found, distance}
 use Rattle.last_write.specs.LastWrite.{undamaged, ask_number, last_written, records_read, Answers, answer_as, Askable}
@@ -177,3 +181,81 @@ module _ (q : Question) (c : List ℕ) (a : Askable q c) where
 
       pub all_read : (eqb end 0 && eqb n (count c)) ≡ true → Answers q c (record { number = none; written = None; records = n })
       all_read all = is-answer (rw (nothing, at-end.0, at-end.1, all)) nothing at-end.0
+
+-- ---- a walk back over the capture, one step after the other
+
+module _ (q : Question) (c : List ℕ) where
+  -- so many records were passed over, and it is where the walk is then
+  pub record Come (n : ℕ) (walk : Back) : Type 0 where
+    pub same : walk.capture.now ≡ c
+    pub walked : Walked q c n walk.end
+
+  module _ {n : ℕ} {walk further : Back} {given : Option ℕ} (w : Come n walk) (s : Steps walk given further) where
+    ended : (b : Bool) → record_ends c walk.end ≡ b → given ≡ cond b (Some walk.end) None
+    ended b r = s.place ∙ ap (λ (d : List ℕ). cond (record_ends d walk.end) (Some walk.end) None) w.same ∙ rw r
+
+    ends-there : {end : ℕ} → given ≡ Some end → (record_ends c walk.end ≡ true) × (end ≡ walk.end)
+    ends-there {end} g = by (record_ends c walk.end) refl
+      where
+        by : (b : Bool) → record_ends c walk.end ≡ b → (record_ends c walk.end ≡ true) × (end ≡ walk.end)
+        by true r = (r, cc (ended true r))
+        by false r = absurd (cc (ended false r))
+
+    none-ends : given ≡ None → record_ends c walk.end ≡ false
+    none-ends g = by (record_ends c walk.end) refl
+      where
+        by : (b : Bool) → record_ends c walk.end ≡ b → record_ends c walk.end ≡ false
+        by true r = absurd (cc (ended true r))
+        by false r = r
+
+    -- each step goes nearer to place 0
+    pub comes-nearer : {end : ℕ} → given ≡ Some end → further.end < walk.end
+    comes-nearer g =
+        let e = ends-there g in
+        let here : further.end ≡ begins c walk.end = s.further ∙ rw (w.same, e.0) in
+        omega (arith, nearer c walk.end e.0)
+
+    -- past a record that does not write the item it goes on
+    pub comes-on : {end : ℕ} {frame : List ℕ} {written : Option ℤ} → given ≡ Some end → frame ≡ frame_before c end
+        → written ≡ wrote q.address frame (q.item - 1) → is_some written ≡ false → Come (n + 1) further
+    comes-on {end} {frame} {written} g f o none =
+        let e = ends-there g in
+        let there : frame ≡ frame_before c walk.end = f ∙ ap (frame_before c) e.1 in
+        let here : further.end ≡ begins c walk.end = s.further ∙ rw (w.same, e.0) in
+        record {
+          same = ap (λ (b : Bor (List ℕ)). b.now) s.same ∙ w.same;
+          walked = walk-on q c w.walked here e.0 (rw (← there, ← o) (no_value written none));
+        }
+      where
+        no_value : (g : Option ℤ) → is_some g ≡ false → g ≡ None
+        no_value (Some v) e = contrary e
+        no_value None e = refl
+
+    module _ (a : Askable q c) where
+      -- one that writes it answers
+      pub comes-to-write : {end : ℕ} {frame : List ℕ} {written : Option ℤ} → given ≡ Some end → frame ≡ frame_before c end
+          → written ≡ wrote q.address frame (q.item - 1) → is_some written ≡ true
+          → Answers q c (record { number = none; written = written; records = n + 1 })
+      comes-to-write {end} {frame} {written} g f o some =
+          let e = ends-there g in
+          frame-answers q c a w.walked e.0 (o ∙ ap (λ (d : List ℕ). wrote q.address d (q.item - 1)) (f ∙ ap (frame_before c) e.1)) (value written some)
+        where
+          value : (g : Option ℤ) → is_some g ≡ true → is_value g ≡ true
+          value (Some v) e = refl
+          value None e = contrary (sym e)
+
+      -- where it stops it is at place 0 after all records, or it has met damage
+      module _ (g : given ≡ None) where
+        stays : further.end ≡ walk.end
+        stays = s.further ∙ rw (w.same, none-ends g)
+
+        pub comes-to-end : further.end ≡ 0 → n ≡ count c → Answers q c (record { number = none; written = None; records = n })
+        comes-to-end z e = all_read q c a w.walked (none-ends g) (rw (eq-eqb walk.end 0 (sym stays ∙ z)) (eq-eqb n (count c) e))
+
+        pub comes-to-damage : (further.end ≡ 0 → n ≡ count c → ⊥) → Answers q c (answer_as (Err BadCapture))
+        comes-to-damage h = meets-damage q c a w.walked (none-ends g) (by (eqb walk.end 0) (eqb n (count c)) refl refl)
+          where
+            by : (z m : Bool) → eqb walk.end 0 ≡ z → eqb n (count c) ≡ m → (eqb walk.end 0 && eqb n (count c)) ≡ false
+            by false m p o = rw p
+            by true false p o = rw (p, o)
+            by true true p o = absurd (h (stays ∙ eqb-true walk.end 0 p) (eqb-true n (count c) o))

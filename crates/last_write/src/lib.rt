@@ -21,19 +21,18 @@ fn walk(capture: &[u8], address: u8, item: u32) -> Result<LastWrite, Refusal>
 {
     let place = item as usize - 1;
     let mut records = 0;
-    let mut end = capture::trailer_begins(capture);
-    while 0 < end {
-        if !capture::record_ends(capture, end) {
-            return Err(Refusal::BadCapture);
-        }
+    let mut back = capture::Back {
+        capture,
+        end: capture::trailer_begins(capture),
+    };
+    while let Some(end) = back.next() {
         records += 1;
         let written = playback::wrote(address, capture::frame_before(capture, end), place);
         if written.is_some() {
             return Ok(LastWrite { written, records });
         }
-        end = capture::begins(capture, end);
     }
-    if records == capture::count(capture) {
+    if back.end == 0 && records == capture::count(capture) {
         Ok(LastWrite {
             written: None,
             records,

@@ -1,44 +1,42 @@
--- `walk`: where no record ends it has met damage or read all, a frame that writes the item answers, and past any other the walk goes on.
-use Rattle.std.proofs.Common.{◌≡◌, false, arith, sym, ap, ◌∙◌, eq-eqb, ne_eqb}
-use Rattle.capture.specs.Format.{record_ends}
-use Rattle.capture.proofs.Walk.{ends}
-use Rattle.writes.specs.Writes.{is_value}
-use Rattle.last_write.proofs.Walked.{none-at-0, walk-on, frame-answers, meets-damage, all_read}
+-- `walk`: past a record that does not write the item it goes on, one that does answers, and where no record ends it has read all or met
+-- damage.
+use Rattle.std.proofs.Common.{arith, refl, sym, ◌∙◌}
+use Rattle.capture.specs.Format.{trailer_begins}
+use Rattle.capture.proofs.Walk.{begun}
+use Rattle.last_write.proofs.Walked.{walk-starts, comes-nearer, comes-on, comes-to-write, comes-to-end, comes-to-damage}
 use Rattle.last_write.proofs.walk.Goals as goal
+use Rattle.last_write.proofs.walk.Goals.{else-back-eq0-via-then-back-eq0+else-records-count, else-back-eq0-via-else-back-eq0}
 
-pub returns-then-not-record_ends : goal.returns-then-not-record_ends
-returns-then-not-record_ends c =
-    rw c.refused.ensures
-    (meets-damage _ c.args.capture.now c.requires c.loop-end.invariant (sym c.record_ends.ensures ∙ c.if-not-record_ends.true)
-    (rw (ne_eqb c.loop-end.end 0 (λ z. omega arith))))
+pub loop-end-init : goal.loop-end-init
+loop-end-init c = record { same = refl; walked = walk-starts _ _ c.trailer_begins.ensures }
 
-pub returns-in-Value : goal.returns-in-Value
-returns-in-Value c =
-    frame-answers _ c.args.capture.now c.requires c.loop-end.invariant (sym c.record_ends.ensures ∙ c.if-not-record_ends.false)
-    (rw c.frame_before.ensures.bytes at c.wrote-written.ensures) (ap is_value c.in-Value.is)
+pub overflow_add-records : goal.overflow_add-records
+unfolding trailer_begins
+overflow_add-records c =
+    omega (arith, c.loop-end.invariant.walked.few, (begun c.args.capture.now c.requires.trailer).short)
 
 pub loop-end-smaller : goal.loop-end-smaller
-loop-end-smaller c =
-    let behind = (ends _ _ (sym c.record_ends.ensures ∙ c.if-not-record_ends.false)).behind in
-    omega (arith, c.begins-end.ensures)
+loop-end-smaller c = comes-nearer _ _ c.loop-end.invariant c.next.ensures.steps c.in-Some.is
 
 pub loop-end-preserved : goal.loop-end-preserved
 loop-end-preserved c =
-    walk-on _ _ c.loop-end.invariant c.begins-end.ensures (sym c.record_ends.ensures ∙ c.if-not-record_ends.false)
-    (sym (rw c.frame_before.ensures.bytes at c.wrote-written.ensures) ∙ c.in_default.is)
+    comes-on _ _ c.loop-end.invariant c.next.ensures.steps c.in-Some.is c.frame_before.ensures.bytes c.wrote-written.ensures
+    (sym c.is_some.ensures ∙ c.if-is_some.false)
 
--- after the loop the walk is at place 0, where no record ends
+pub returns-then-is_some : goal.returns-then-is_some
+returns-then-is_some c =
+    comes-to-write _ _ c.loop-end.invariant c.next.ensures.steps c.requires c.in-Some.is c.frame_before.ensures.bytes
+    c.wrote-written.ensures (sym c.is_some.ensures ∙ c.if-is_some.true)
+
 pub returns-then-records-count : goal.returns-then-records-count
 returns-then-records-count c =
-    let z : c.loop-end.end ≡ 0 = omega arith in
-    let at-0 : record_ends c.args.capture.now c.loop-end.end ≡ false = rw z (none-at-0 _) in
-    all_read _ c.args.capture.now c.requires c.loop-end.invariant at-0
-    (rw (eq-eqb c.loop-end.end 0 z) (eq-eqb _ _ (c.if-records-count.true ∙ c.count.ensures)))
+    comes-to-end _ _ c.loop-end.invariant c.next.ensures.steps c.requires c.in_default.is c.if-back-eq0.true
+    (c.if-records-count.true ∙ c.count.ensures)
 
-pub returns-else-records-count : goal.returns-else-records-count
-returns-else-records-count c =
-    let z : c.loop-end.end ≡ 0 = omega arith in
-    let at-0 : record_ends c.args.capture.now c.loop-end.end ≡ false = rw z (none-at-0 _) in
-    rw c.refused-else-records-count.ensures
-    (meets-damage _ c.args.capture.now c.requires c.loop-end.invariant at-0
-    (rw (eq-eqb c.loop-end.end 0 z) (ne_eqb _ _ (λ e. c.if-records-count.false (e ∙ sym c.count.ensures)))))
+pub returns-else-back-eq0 : goal.returns-else-back-eq0
+returns-else-back-eq0 c =
+    comes-to-damage _ _ c.loop-end.invariant c.next.ensures.steps c.requires c.in_default.is (λ z e.
+    elim c.else-back-eq0.branch [
+      | else-back-eq0-via-then-back-eq0+else-records-count w ↦ w.if-records-count.false (e ∙ sym w.count.ensures)
+      | else-back-eq0-via-else-back-eq0 w ↦ w.if-back-eq0.false z
+    ])
