@@ -1,11 +1,8 @@
 // Runs the worked examples of Modbus ASCII through the library and writes a line for each: the example, and what comes of it.
 #![tactic(auto)]
 
-use modbus::Answered;
+use instrument::{Instrument, M1};
 use std::rt::Stdout;
-
-// The number of the item that the firmware puts: the measured value.
-const M1: u32 = 1;
 
 // ---- the line of one example
 
@@ -17,49 +14,55 @@ fn lrc(out: &Stdout, bytes: &[u8]) {
     show::end_of_line(out);
 }
 
-// The characters of a line as text, without the two at its end, or as bytes.
-fn show_characters(out: &Stdout, line: &[u8], len: usize, as_text: bool) {
-    show::text(out, b":");
-    if !as_text {
-        show::part(out, line, 0, len);
-    } else if 2 <= len {
-        show::quoted_up_to(out, line, len - 2);
+// A line as text, without the two characters at its end.
+fn as_text(out: &Stdout, line: &[u8]) {
+    if let Some((front, _)) = line.split_last_chunk::<2>() {
+        show::quoted(out, front);
     }
 }
 
-// The number, and the line that is sent back, if any.
-fn show_answer(out: &Stdout, answered: Answered, reply: &[u8], as_text: bool) {
+// A line to an instrument, the number, and the line that is sent back, if any: each line behind a colon, as it is to be shown.
+fn exchange<S: Fn(&[u8])>(
+    out: &Stdout,
+    mut instrument: Instrument,
+    address: u8,
+    line: &[u8],
+    show_line: S,
+)
+    requires { S.IsAlwaysCallable show_line }
+{
+    show::text(out, b":");
+    show_line(line);
+    let mut reply = [0u8; numbers::LEAST_BUFFER];
+    let answered = ascii::line(&mut instrument.table, &mut reply, address, line);
     show::arrow(out);
-    show::number(out, answered.number);
-    if answered.len != 0 {
-        show_characters(out, reply, answered.len, as_text);
+    show::number(out, answered.number.into());
+    match reply.get(..answered.len) {
+        Some(sent) if !sent.is_empty() => {
+            show::text(out, b":");
+            show_line(sent);
+        }
+        _ => {}
     }
     show::end_of_line(out);
 }
 
-fn exchange(out: &Stdout, table: &mut [i32], address: u8, line: &[u8], as_text: bool) {
-    show_characters(out, line, line.len(), as_text);
-    let mut reply = [0u8; numbers::LEAST_BUFFER];
-    let answered = ascii::line(table, &mut reply, address, line);
-    show_answer(out, answered, &reply, as_text);
-}
-
-// A line to an instrument at its start values.
-fn from_start(out: &Stdout, address: u8, line: &[u8], as_text: bool) {
-    show::byte(out, address);
-    let mut table = [0i32; items::ITEMS];
-    table::start(&mut table);
-    exchange(out, &mut table, address, line, as_text);
-}
-
 fn text(out: &Stdout, address: u8, line: &[u8]) {
     show::text(out, b"ascii");
-    from_start(out, address, line, true);
+    show::byte(out, address);
+    exchange(out, Instrument::start(), address, line, |l| as_text(out, l));
 }
 
 fn bytes(out: &Stdout, address: u8, line: &[u8]) {
     show::text(out, b"line");
-    from_start(out, address, line, false);
+    show::byte(out, address);
+    exchange(
+        out,
+        Instrument::start(),
+        address,
+        line,
+        |l| show::bytes(out, l),
+    );
 }
 
 // A line as text after the firmware has put a value to M1.
@@ -67,11 +70,14 @@ fn text_with_m1(out: &Stdout, address: u8, value: i32, line: &[u8]) {
     show::text(out, b"ascii");
     show::byte(out, address);
     show::text(out, b", M1");
-    show::value(out, value);
-    let mut table = [0i32; items::ITEMS];
-    table::start(&mut table);
-    table::put(&mut table, M1, value);
-    exchange(out, &mut table, address, line, true);
+    show::number(out, value.into());
+    exchange(
+        out,
+        Instrument::start().with(M1, value),
+        address,
+        line,
+        |l| as_text(out, l),
+    );
 }
 
 // ---- the examples

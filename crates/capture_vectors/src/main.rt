@@ -2,9 +2,8 @@
 // what comes of it.
 #![tactic(auto)]
 
-use numbers::NONE;
+use instrument::{F1, Instrument, PB};
 use std::rt::Stdout;
-use writes::Given;
 
 // Document 000's write of 0102H to the offset, one of FF6AH, and document 004's write of a register that the map does not have.
 const THREE_WRITES: [u8; 36] =
@@ -16,11 +15,6 @@ const DAMAGED_IN_FRONT: [u8; 36] =
 
 // One record, where the trailer counts two.
 const MISCOUNTED: [u8; 16] = *b"\x01\x06\x00\x10\x01\x02\x08\x5E\x00\x08\x00\x02\x00\x00\x00\x00";
-
-// The numbers of the offset and of the filter.
-const PB: u8 = 9;
-
-const F1: u8 = 11;
 
 // ---- the line of one example
 
@@ -35,50 +29,54 @@ fn playback(out: &Stdout, address: u8, capture: &[u8]) {
     show::text(out, b"playback");
     show::byte(out, address);
     handed(out, capture);
-    let mut table = [0i32; items::ITEMS];
-    let number = playback::play(&mut table, address, capture);
-    show::number(out, number);
-    if number == NONE {
-        show::text(out, b":");
-        show::values(out, &table);
+    let mut table = Instrument::start().table;
+    match playback::play(&mut table, address, capture) {
+        Ok(()) => {
+            show::text(out, b" 0:");
+            show::numbers(out, &table);
+        }
+        Err(refusal) => show::number(out, refusal.number().into()),
     }
     show::end_of_line(out);
 }
 
 fn frame(out: &Stdout, frame: u8, capture: &[u8]) {
     show::text(out, b"show");
-    show::number(out, frame);
+    show::number(out, frame.into());
     handed(out, capture);
-    let number = capture::look_up(capture, frame as u32).number;
-    show::number(out, number);
-    if number == NONE {
-        show::text(out, b":");
-        show::bytes(out, capture::show(capture, frame as u32));
+    match capture::look_up(capture, u32::from(frame)) {
+        Ok(_) => {
+            show::text(out, b" 0:");
+            show::bytes(out, capture::show(capture, u32::from(frame)));
+        }
+        Err(refusal) => show::number(out, refusal.number().into()),
     }
     show::end_of_line(out);
 }
 
-fn told(out: &Stdout, written: Given) {
+fn told(out: &Stdout, written: Option<i32>) {
     match written {
-        Given::Value(value) => show::value(out, value),
-        Given::Nothing => show::text(out, b" never written"),
+        Some(value) => show::number(out, value.into()),
+        None => show::text(out, b" never written"),
     }
 }
 
-fn last_write(out: &Stdout, address: u8, item: u8, capture: &[u8]) {
+// The item is shown by its number, which is its place in the list counted from 1.
+fn last_write(out: &Stdout, address: u8, place: u8, capture: &[u8]) {
+    let item = u32::from(place) + 1;
     show::text(out, b"last");
     show::byte(out, address);
     show::text(out, b", item");
-    show::number(out, item);
+    show::number(out, item.into());
     handed(out, capture);
-    let answer = last_write::ask(capture, address, item as u32);
-    show::number(out, answer.number);
-    if answer.number == NONE {
-        let written = answer.written;
-        show::text(out, b":");
-        told(out, written);
-        show::text(out, b", records");
-        show::count(out, answer.records);
+    match last_write::ask(capture, address, item) {
+        Ok(found) => {
+            show::text(out, b" 0:");
+            told(out, found.written);
+            show::text(out, b", records");
+            show::count(out, found.records);
+        }
+        Err(refusal) => show::number(out, refusal.number().into()),
     }
     show::end_of_line(out);
 }

@@ -3,4 +3,5 @@ pub mod Holding
 pub mod Frames
 pub mod Demands
 pub mod Alarms
+pub mod Outcomes
 pub mod Single

@@ -2,8 +2,7 @@
 // the number given back plus 256 times the length of the reply.
 #![tactic(auto)]
 
-ghost use Rattle.std.specs.Prelude.{◌≡◌, ◌≤◌, length};
-ghost use Rattle.std.proofs.lemmas.List.Edits.{sets};
+ghost use Rattle.std.specs.Prelude.{◌≡◌, ◌≤◌};
 ghost use Rattle.numbers.specs.Promise.{Lent};
 ghost use Rattle.table.specs.Table.{start_number, start_table, put_number, put_table};
 ghost use Rattle.text.specs.Numbers.{width};
@@ -29,10 +28,7 @@ use rkc::{Link, Stepped};
 fn is_call_fault(number: u8) -> bool
     ensures { result ≡ is_call_fault number }
 {
-    match number {
-        1..=5 => true,
-        _ => false,
-    }
+    matches!(number, 1..=5)
 }
 
 // The number and the length of the reply in one.
@@ -40,7 +36,7 @@ fn result(number: u8, len: usize) -> u32
     requires { len ≤ longest_reply }
     ensures { result ≡ result_of number len }
 {
-    number as u32 + 256 * (len as u32)
+    u32::from(number) + 256 * (len as u32)
 }
 
 // The state is held again, unless the call had a fault.
@@ -48,11 +44,9 @@ fn hold(state: &mut [u8], stepped: Stepped) -> u32
     requires { Holdable stepped state.old }
     ensures { Held stepped result state.old state.new }
 {
-    let link = stepped.link;
-    if is_call_fault(stepped.number) {
-        return result(stepped.number, stepped.len);
+    if !is_call_fault(stepped.number) {
+        state::pack(state, stepped.link);
     }
-    state::pack(state, link);
     result(stepped.number, stepped.len)
 }
 
@@ -62,7 +56,7 @@ fn hold(state: &mut [u8], stepped: Stepped) -> u32
 pub fn vb_start_table(table: &mut [i32]) -> u32
     ensures { Lent (start_number table.old) (start_table table.old) result table.new }
 {
-    number_given(table::start(table)) as u32
+    u32::from(number_given(table::start(table)))
 }
 
 // The link starts at rest.
@@ -71,7 +65,7 @@ pub fn vb_start_link(state: &mut [u8]) -> u32
         result state.new }
 {
     if state.len() != state::STATE_BYTES {
-        return Refusal::BadState.number() as u32;
+        return u32::from(Refusal::BadState.number());
     }
     state::pack(state, Link::start());
     0
@@ -142,7 +136,7 @@ pub fn vb_put(table: &mut [i32], item: u32, value: i32) -> u32
     ensures { Lent (put_number table.old item value) (put_table table.old item value)
         result table.new }
 {
-    number_given(table::put(table, item, value)) as u32
+    u32::from(number_given(table::put(table, item, value)))
 }
 
 // Number text is read.
@@ -152,20 +146,7 @@ pub fn vb_read_text(decimals: u8, chars: &[u8], value: &mut i32) -> u32
 {
     let read = text::read(decimals, chars);
     *value = read.unwrap_or(0);
-    number_given(read) as u32
-}
-
-// Six characters stand at the front.
-fn put_six(chars: &mut [u8], six: [u8; 6])
-    requires { width ≤ length chars.old }
-    ensures { chars.new ≡ sets chars.old 0 six }
-{
-    chars[0] = six[0];
-    chars[1] = six[1];
-    chars[2] = six[2];
-    chars[3] = six[3];
-    chars[4] = six[4];
-    chars[5] = six[5];
+    u32::from(number_given(read))
 }
 
 // Number text is written, where there is room for six characters.
@@ -174,11 +155,12 @@ pub fn vb_write_text(decimals: u8, value: i32, chars: &mut [u8]) -> u32
         (text_left decimals value chars.old) result chars.new }
 {
     if chars.len() < text::WIDTH {
-        return Refusal::ShortBuffer.number() as u32;
+        return u32::from(Refusal::ShortBuffer.number());
     }
     let written = text::write(decimals, value);
-    put_six(chars, written.unwrap_or([0; text::WIDTH]));
-    number_given(written) as u32
+    let six = written.unwrap_or([0; text::WIDTH]);
+    chars[..text::WIDTH].copy_from_slice(&six);
+    u32::from(number_given(written))
 }
 
 // ---- captures
@@ -188,7 +170,7 @@ pub fn vb_playback(table: &mut [i32], address: u8, capture: &[u8]) -> u32
     ensures { Lent (play_number table.old address capture.now)
         (played table.old address capture.now) result table.new }
 {
-    number_given(playback::play(table, address, capture)) as u32
+    u32::from(number_given(playback::play(table, address, capture)))
 }
 
 // A frame of a capture is shown by its place and its length.
@@ -200,7 +182,7 @@ pub fn vb_show(capture: &[u8], frame: u32, place: &mut u32, length: &mut u32) ->
     let stretch = shown.unwrap_or(Stretch { place: 0, len: 0 });
     *place = stretch.place as u32;
     *length = stretch.len as u32;
-    number_given(shown) as u32
+    u32::from(number_given(shown))
 }
 
 // What was last written to an item, by the value and the records that it sets; 256 more where a write was found.
@@ -221,5 +203,5 @@ pub fn vb_last_write(
     });
     *value = found.written.unwrap_or(0);
     *records = found.records as u32;
-    result(number_given(asked), found.written.is_some() as usize)
+    result(number_given(asked), usize::from(found.written.is_some()))
 }

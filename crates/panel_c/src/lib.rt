@@ -1,5 +1,5 @@
 // The C library: each function of the C face under the C name that it has there. It calls that function of panel and promises what
-// that one promises. A slice passes as pointer and length.
+// that one promises: the C interface has these twelve names, so the twelve stand here a second time. A slice passes as pointer and length.
 #![tactic(auto)]
 
 ghost use Rattle.numbers.specs.Promise.{Lent};

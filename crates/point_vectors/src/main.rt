@@ -2,162 +2,72 @@
 // comes of it.
 #![tactic(auto)]
 
-use line::{ENQ, EOT, ETX, STX};
-use rkc::{Link, Stepped};
+use instrument::{A1, A2, F1, Instrument, M1, PB, PR, S1, XU};
+use line::{ENQ, EOT};
 use std::rt::Stdout;
-
-// The places in the item list of the items that take examples.
-const M1: usize = 0;
-
-const S1: usize = 5;
-
-const A1: usize = 6;
-
-const A2: usize = 7;
-
-const PB: usize = 8;
-
-const PR: usize = 9;
-
-const F1: usize = 10;
-
-const XU: usize = 12;
-
-// ---- what the firmware and a host do
-
-// The firmware puts a value to the item at a place.
-fn put(table: &mut [i32], place: usize, value: i32) {
-    if place < items::ITEMS {
-        table::put(table, place as u32 + 1, value);
-    }
-}
-
-// Start values into which the firmware puts XU.
-fn started(xu: u8) -> [i32; items::ITEMS] {
-    let mut table = [0i32; items::ITEMS];
-    table::start(&mut table);
-    put(&mut table, XU, xu as i32);
-    table
-}
-
-// Bytes come one after another, at address 1, in structure 0, at time 0. Replies are shown as they come, or not at all; the last one
-// stays in the buffer.
-fn hear(
-    out: &Stdout,
-    link: Link,
-    table: &mut [i32],
-    reply: &mut [u8],
-    bytes: &[u8],
-    shown: bool,
-) -> Stepped {
-    let mut last = Stepped {
-        link,
-        number: 0,
-        len: 0,
-    };
-    for i in 0..bytes.len() {
-        let link = last.link;
-        last = link.byte(table, reply, 1, 0, 0, bytes[i]);
-        if shown {
-            show::part(out, reply, 0, last.len);
-        }
-    }
-    last
-}
-
-// A block brings the item at a place a number: the number that its BCC gives.
-fn bring(out: &Stdout, table: &mut [i32], place: usize, chars: &[u8]) -> u8 {
-    let name = items::identifier(place);
-    let mut reply = [0u8; numbers::LEAST_BUFFER];
-    let front = [EOT, b'0', b'1', STX, name[0], name[1]];
-    let end = [ETX, name[0] ^ name[1] ^ line::bcc(chars) ^ ETX];
-    let opened = hear(out, Link::start(), table, &mut reply, &front, false);
-    let told = hear(out, opened.link, table, &mut reply, chars, false);
-    hear(out, told.link, table, &mut reply, &end, false).number
-}
 
 // ---- the line of one example
 
-fn name_of(out: &Stdout, place: usize) {
-    let name = items::identifier(place);
-    show::text(out, &name);
-}
-
 // A block to an item, at an XU: the number, and what the item and XU hold afterwards.
-fn told(out: &Stdout, xu: u8, place: usize, chars: &[u8]) {
+fn told(out: &Stdout, xu: u8, place: u8, text: &[u8]) {
     show::text(out, b"told");
-    show::number(out, xu);
-    show::text(out, b": \"");
-    name_of(out, place);
-    show::text(out, chars);
-    show::text(out, b"\"");
-    let mut table = started(xu);
-    let number = bring(out, &mut table, place, chars);
-    show::arrow(out);
-    show::number(out, number);
+    show::number(out, xu.into());
     show::text(out, b":");
-    show::value(out, table::answer(&table, place));
-    show::value(out, table::answer(&table, XU));
+    instrument::block(out, place, text);
+    let mut instrument = Instrument::start().with(XU, xu.into());
+    let number = instrument.bring(place, text).number;
+    show::arrow(out);
+    show::number(out, number.into());
+    show::text(out, b":");
+    show::number(out, table::answer(&instrument.table, place as usize).into());
+    show::number(out, table::answer(&instrument.table, XU as usize).into());
     show::end_of_line(out);
 }
 
-// A poll of an item with a value, at an XU: the six characters of its reply.
-fn polled(out: &Stdout, xu: u8, place: usize, value: i32) {
-    show::text(out, b"polled");
-    show::number(out, xu);
+// What the firmware puts before an example: the item and its value.
+fn put_first(out: &Stdout, place: u8, value: i32) {
     show::text(out, b", ");
-    name_of(out, place);
-    show::value(out, value);
-    let name = items::identifier(place);
-    let mut table = started(xu);
-    put(&mut table, place, value);
+    show::text(out, &items::identifier(place as usize));
+    show::number(out, value.into());
+}
+
+// A poll of an item with a value, at an XU: the six characters of its reply.
+fn polled(out: &Stdout, xu: u8, place: u8, value: i32) {
+    show::text(out, b"polled");
+    show::number(out, xu.into());
+    put_first(out, place, value);
+    let mut instrument = Instrument::start()
+        .with(XU, xu.into())
+        .with(place, value);
+    let name = items::identifier(place as usize);
     let mut reply = [0u8; numbers::LEAST_BUFFER];
-    hear(
-        out,
-        Link::start(),
-        &mut table,
-        &mut reply,
-        &[EOT, b'0', b'1', name[0], name[1], ENQ],
-        false,
-    );
+    for byte in [EOT, b'0', b'1', name[0], name[1], ENQ] {
+        instrument.hear(&mut reply, byte);
+    }
     show::arrow(out);
     show::quoted(out, &reply[3..9]);
     show::end_of_line(out);
 }
 
-// The item that the firmware puts before an example, and its value.
-fn put_first(out: &Stdout, place: usize, value: i32) -> [i32; items::ITEMS] {
-    show::text(out, b", ");
-    name_of(out, place);
-    show::value(out, value);
-    let mut table = [0i32; items::ITEMS];
-    table::start(&mut table);
-    put(&mut table, place, value);
-    table
-}
-
 // Bytes come from a host, and all that is replied is shown.
-fn bench(out: &Stdout, place: usize, value: i32, bytes: &[u8]) {
+fn bench(out: &Stdout, place: u8, value: i32, bytes: &[u8]) {
     show::text(out, b"bench");
-    let mut table = put_first(out, place, value);
+    put_first(out, place, value);
     show::text(out, b":");
     show::bytes(out, bytes);
     show::arrow(out);
-    let mut reply = [0u8; numbers::LEAST_BUFFER];
-    hear(out, Link::start(), &mut table, &mut reply, bytes, true);
+    instrument::replies(out, Instrument::start().with(place, value), bytes);
     show::end_of_line(out);
 }
 
 // A frame comes at address 1. It is shown without its CRC, and the reply with it.
-fn exchange(out: &Stdout, table: &mut [i32], frame: &[u8]) {
+fn exchange(out: &Stdout, mut instrument: Instrument, frame: &[u8]) {
     show::text(out, b":");
-    if 2 <= frame.len() {
-        show::part(out, frame, 0, frame.len() - 2);
-    }
+    show::part(out, frame, 0, frame.len().saturating_sub(2));
     let mut reply = [0u8; numbers::LEAST_BUFFER];
-    let answered = rtu::frame(table, &mut reply, 1, frame);
+    let answered = rtu::frame(&mut instrument.table, &mut reply, 1, frame);
     show::arrow(out);
-    show::number(out, answered.number);
+    show::number(out, answered.number.into());
     show::text(out, b":");
     show::part(out, &reply, 0, answered.len);
     show::end_of_line(out);
@@ -165,16 +75,14 @@ fn exchange(out: &Stdout, table: &mut [i32], frame: &[u8]) {
 
 fn ask(out: &Stdout, frame: &[u8]) {
     show::text(out, b"ask 01");
-    let mut table = [0i32; items::ITEMS];
-    table::start(&mut table);
-    exchange(out, &mut table, frame);
+    exchange(out, Instrument::start(), frame);
 }
 
 // The same after the firmware has put XU.
 fn ask_at(out: &Stdout, xu: i32, frame: &[u8]) {
     show::text(out, b"ask 01");
-    let mut table = put_first(out, XU, xu);
-    exchange(out, &mut table, frame);
+    put_first(out, XU, xu);
+    exchange(out, Instrument::start().with(XU, xu), frame);
 }
 
 // ---- the examples

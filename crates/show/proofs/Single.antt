@@ -25,23 +25,17 @@ part = record { asks_nothing = λ κs a. tt; single = λ κs a o u p q. refl & r
 pub bytes : OneOutcome contract.bytes.ended show.bytes.Reads.Asked show.bytes.Reads.Post
 bytes = record { asks_nothing = λ κs a. tt; single = λ κs a o u p q. refl & refl }
 
-pub register : OneOutcome contract.register.ended show.register.Reads.Asked show.register.Reads.Post
-register = record { asks_nothing = λ κs a. tt; single = λ κs a o u p q. refl & refl }
+pub word : OneOutcome contract.word.ended show.word.Reads.Asked show.word.Reads.Post
+word = record { asks_nothing = λ κs a. tt; single = λ κs a o u p q. refl & refl }
 
 pub quoted : OneOutcome contract.quoted.ended show.quoted.Reads.Asked show.quoted.Reads.Post
 quoted = record { asks_nothing = λ κs a. tt; single = λ κs a o u p q. refl & refl }
 
-pub quoted-up-to : OneOutcome contract.quoted_up_to.ended show.quoted_up_to.Reads.Asked show.quoted_up_to.Reads.Post
-quoted-up-to = record { asks_nothing = λ κs a. tt; single = λ κs a o u p q. refl & refl }
-
-pub count : OneOutcome contract.count.ended show.count.Reads.Asked show.count.Reads.Post
-count = record { asks_nothing = λ κs a. tt; single = λ κs a o u p q. refl & refl }
-
 pub number : OneOutcome contract.number.ended show.number.Reads.Asked show.number.Reads.Post
 number = record { asks_nothing = λ κs a. tt; single = λ κs a o u p q. refl & refl }
 
-pub value : OneOutcome contract.value.ended show.value.Reads.Asked show.value.Reads.Post
-value = record { asks_nothing = λ κs a. tt; single = λ κs a o u p q. refl & refl }
+pub numbers : OneOutcome contract.numbers.ended show.numbers.Reads.Asked show.numbers.Reads.Post
+numbers = record { asks_nothing = λ κs a. tt; single = λ κs a o u p q. refl & refl }
 
-pub values : OneOutcome contract.values.ended show.values.Reads.Asked show.values.Reads.Post
-values = record { asks_nothing = λ κs a. tt; single = λ κs a o u p q. refl & refl }
+pub count : OneOutcome contract.count.ended show.count.Reads.Asked show.count.Reads.Post
+count = record { asks_nothing = λ κs a. tt; single = λ κs a o u p q. refl & refl }

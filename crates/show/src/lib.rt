@@ -1,8 +1,6 @@
-// Lines of text on standard output, for the programs that run worked examples. Bytes, numbers, values and quotes come with a space
-// before them. A write that fails is passed over: whoever compares these lines compares all of them.
+// Lines of text on standard output, for the programs that run worked examples. Bytes, numbers and quotes come with a space before
+// them. A write that fails is passed over: whoever compares these lines compares all of them.
 #![tactic(auto)]
-
-ghost use Rattle.std.specs.Prelude.{◌<◌};
 
 use std::rt::Stdout;
 
@@ -19,41 +17,26 @@ pub fn end_of_line(out: &Stdout) {
     text(out, b"\n");
 }
 
-// A hexadecimal digit, in capitals.
-fn digit(n: u8) -> u8
-    requires { n < 16 }
-{
-    if n < 10 { b'0' + n } else { b'A' + (n - 10) }
+pub fn byte(out: &Stdout, byte: u8) {
+    let _ = print!(out; " {byte:02X}");
 }
 
-pub fn byte(out: &Stdout, byte: u8) {
-    let chars = [b' ', digit(byte / 16), digit(byte % 16)];
-    text(out, &chars);
+pub fn bytes(out: &Stdout, bytes: &[u8]) {
+    for &b in bytes {
+        byte(out, b);
+    }
 }
 
 // The bytes from one place up to another, as far as there are any.
 pub fn part(out: &Stdout, bytes: &[u8], from: usize, to: usize) {
-    for i in 0..bytes.len() {
-        if from <= i && i < to {
-            byte(out, bytes[i]);
-        }
+    for &b in bytes.iter().take(to).skip(from) {
+        byte(out, b);
     }
 }
 
-pub fn bytes(out: &Stdout, bytes: &[u8]) {
-    part(out, bytes, 0, bytes.len());
-}
-
-// Two bytes in one.
-pub fn register(out: &Stdout, high: u8, low: u8) {
-    let chars = [
-        b' ',
-        digit(high / 16),
-        digit(high % 16),
-        digit(low / 16),
-        digit(low % 16),
-    ];
-    text(out, &chars);
+// What a register holds.
+pub fn word(out: &Stdout, word: u16) {
+    let _ = print!(out; " {word:04X}");
 }
 
 pub fn quoted(out: &Stdout, chars: &[u8]) {
@@ -62,33 +45,18 @@ pub fn quoted(out: &Stdout, chars: &[u8]) {
     text(out, b"\"");
 }
 
-// The characters up to a place, if there are as many.
-pub fn quoted_up_to(out: &Stdout, chars: &[u8], to: usize) {
-    if to <= chars.len() {
-        quoted(out, &chars[..to]);
+pub fn number(out: &Stdout, n: i64) {
+    let _ = print!(out; " {n}");
+}
+
+pub fn numbers(out: &Stdout, values: &[i32]) {
+    for &value in values {
+        number(out, value.into());
     }
 }
 
+// How many there are. That each function of a library has one outcome is said of functions without type parameters, so this one and
+// `number` stay two.
 pub fn count(out: &Stdout, n: usize) {
-    text(out, b" ");
-    let _ = out.print(n as u64);
-}
-
-pub fn number(out: &Stdout, number: u8) {
-    count(out, number as usize);
-}
-
-pub fn value(out: &Stdout, value: i32) {
-    if value < 0 {
-        text(out, b" -");
-    } else {
-        text(out, b" ");
-    }
-    let _ = out.print(sign::size(value) as u64);
-}
-
-pub fn values(out: &Stdout, values: &[i32]) {
-    for i in 0..values.len() {
-        value(out, values[i]);
-    }
+    let _ = print!(out; " {n}");
 }

@@ -1,14 +1,15 @@
 // Runs the worked examples of documents 01 and 02, of the manuals 000, 002, 003 and 004 and of the Modbus documents through the
 // library and writes a line for each: the example, and what comes of it. An example that more than one document prints stands where
-// it comes first. Those of captures, of Modbus ASCII and of the alarm states have programs
-// of their own, `capture_vectors`, `ascii_vectors` and `alarm_vectors`.
+// it comes first. Those of captures, of Modbus ASCII, of the alarm states and of the decimal point have programs of their own,
+// `capture_vectors`, `ascii_vectors`, `alarm_vectors` and `point_vectors`.
 #![tactic(auto)]
 
 mod modbus_rtu;
 mod rkc_line;
 
+use instrument::{F1, PB, PR};
 use modbus_rtu::{ask, ask_with_m1, crc, pdu, register, rtu};
-use rkc_line::{F1, PB, PR, bcc, bench, bench_with_m1, read, sent, write};
+use rkc_line::{bcc, bench, bench_with_m1, read, sent, write};
 use std::rt::Stdout;
 
 // Document 01, both sides of each edge: number text to PB, then to F1 and PR; number text written; characters, registers and frames,

@@ -5,7 +5,7 @@ use Rattle.bench.proofs.Replies.{within-buffer}
 use Rattle.bench.proofs.hear.Goals as goal
 
 pub slice_bounds-reply-end : goal.slice_bounds-reply-end
-slice_bounds-reply-end c = within-buffer _ c.byte-stepped.ensures (omega arith)
+slice_bounds-reply-end c = within-buffer _ c.hear-len.ensures.leads (omega arith)
 
 pub slice_bounds-write_all-end : goal.slice_bounds-write_all-end
-slice_bounds-write_all-end c = sym (length-take-le _ _ (within-buffer _ c.byte-stepped.ensures (omega arith)))
+slice_bounds-write_all-end c = sym (length-take-le _ _ (within-buffer _ c.hear-len.ensures.leads (omega arith)))

@@ -1,19 +1,18 @@
 -- `panel::vb_show`: place and length of a frame that is shown have room in 32 bits.
-use Rattle.std.proofs.Common.{◌+◌, ◌≤◌, arith}
-use Rattle.capture.specs.Format.{longest_capture}
-use Rattle.capture.proofs.ByNumber.{shown-small}
+use Rattle.std.proofs.Common.{arith, ◌∙◌}
+use Rattle.panel.proofs.Outcomes.{stretch-small, stretch-shown}
 use Rattle.panel.proofs.vb_show.Goals as goal
 
 pub overflow_cast-place : goal.overflow_cast-place
 overflow_cast-place c =
-    let shows = c.look_up-shown.ensures in
-    let small : c.look_up-shown.result.place + c.look_up-shown.result.len ≤ longest_capture =
-    rw (shows.place, shows.len) (shown-small c.args.capture.now c.args.frame) in
+    let small = stretch-small _ _ _ _ c.unwrap_or-stretch.ensures c.look_up-shown.ensures in
     omega arith
 
 pub overflow_cast-length : goal.overflow_cast-length
 overflow_cast-length c =
-    let shows = c.look_up-shown.ensures in
-    let small : c.look_up-shown.result.place + c.look_up-shown.result.len ≤ longest_capture =
-    rw (shows.place, shows.len) (shown-small c.args.capture.now c.args.frame) in
+    let small = stretch-small _ _ _ _ c.unwrap_or-stretch.ensures c.look_up-shown.ensures in
     omega arith
+
+pub returns : goal.returns
+returns c =
+    stretch-shown _ _ _ _ _ c.unwrap_or-stretch.ensures c.look_up-shown.ensures (c.from.ensures ∙ c.number_given.ensures)

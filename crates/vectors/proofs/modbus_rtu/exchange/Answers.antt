@@ -22,8 +22,8 @@ within {before} {after} {n} {len} h =
     let end : len ≡ sealed_length before n = h.handed in
     omega arith
 
-pub slice_bounds-frame-end : goal.slice_bounds-frame-end
-slice_bounds-frame-end c = within c.seal-end.ensures
-
 pub slice_bounds-frame-end-2 : goal.slice_bounds-frame-end-2
-slice_bounds-frame-end-2 c = sym (length-take-le _ _ (within c.seal-end.ensures))
+slice_bounds-frame-end-2 c = rw c.unwrap_or-end.ensures (within c.seal.ensures.frame)
+
+pub slice_bounds-frame-end-3 : goal.slice_bounds-frame-end-3
+slice_bounds-frame-end-3 c = sym (length-take-le _ _ (rw c.unwrap_or-end.ensures (within c.seal.ensures.frame)))
