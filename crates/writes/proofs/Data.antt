@@ -7,7 +7,7 @@ use Rattle.std.proofs.lemmas.Iterator.Consumers.{YieldsList-from_first}
 use Rattle.std.proofs.lemmas.Iterator.Search.{all_from_yields_List}
 use denote.Param.Members.{Mut}
 use mathlib.Core.Path.{◌≡◌, refl, sym, ap, ap₂, ◌∙◌}
-use mathlib.Core.Bool.{Bool, true, false, ◌&&◌}
+use mathlib.Core.Bool.{Bool, true, false, ◌&&◌, and-true}
 use mathlib.Core.List.{List, [], ◌∷◌}
 use Prim.Native.Nat.{ℕ, suc, ◌+◌, ◌-◌, ◌≤◌, ◌<◌, min}
 use native.Mathlib.Omega.{arith}
@@ -21,7 +21,7 @@ use Rattle.items.proofs.Lookup.{place-past}
 use Rattle.registers.specs.Register.{of_register, word}
 use Rattle.writes.specs.declared.Asked.{Asked}
 use Rattle.writes.specs.Asked.{write, left}
-use Rattle.writes.specs.Writes.{Write, writes, each}
+use Rattle.writes.specs.Writes.{Write, writes, writable, inside, each}
 
 -- what is left of a body from a place on is the part that ends where the body ends
 pub to_the_end : (place : ℕ) (body : List ℕ) → take (length body - place) (drop place body) ≡ drop place body
@@ -65,3 +65,18 @@ each-checked test ws s u f r e ran closure =
     same-test : (ws : List Write) → list_all test ws ≡ each test ws
     same-test [] = refl
     same-test (w ∷ ws) = ap (λ (b : Bool). test w && b) (same-test ws)
+
+-- what was judged so far of writes, and what is left to be judged
+pub record Judged (ws left : List Write) (so_far : Bool) : Type 0 where
+  pub registers : each writable left ≡ each writable ws
+  pub values : so_far && each inside left ≡ each inside ws
+
+module _ (ws : List Write) {left : List Write} {so_far : Bool} (j : Judged ws left so_far) where
+  pub judged-fails : (w : Write) (behind : List Write) → left ≡ w ∷ behind → writable w ≡ false → each writable ws ≡ false
+  judged-fails w behind first f = sym j.registers ∙ ap (each writable) first ∙ ap (λ (b : Bool). b && each writable behind) f
+
+  pub judged-all : left ≡ [] → (each writable ws ≡ true) × (so_far ≡ each inside ws)
+  judged-all none = (
+    sym j.registers ∙ ap (each writable) none,
+    sym (and-true so_far) ∙ ap (λ (l : List Write). so_far && each inside l) (sym none) ∙ j.values,
+  )

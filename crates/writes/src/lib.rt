@@ -90,17 +90,21 @@ fn several_asked(body: &[u8]) -> Asked<'_>
     }
 }
 
-// The fault of a request to write several registers. Every register is looked at before any value.
+// The fault of a request to write several registers. A value out of range is told of only where every register is a writable item's.
 fn several_fault(body: &[u8]) -> Result<(), Refusal>
     ensures { number_given result ≡ several_fault body.now }
 {
     if !registers::right_counts(body) {
         return Err(Refusal::WrongData);
     }
-    if !several_asked(body).all(|(place, _)| items::writable(place)) {
-        return Err(Refusal::WrongRegister);
+    let mut inside = true;
+    for (place, value) in several_asked(body) {
+        if !items::writable(place) {
+            return Err(Refusal::WrongRegister);
+        }
+        inside &= items::in_range(place, value);
     }
-    if several_asked(body).all(|(place, value)| items::in_range(place, value)) {
+    if inside {
         Ok(())
     } else {
         Err(Refusal::WrongData)
