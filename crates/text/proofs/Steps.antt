@@ -34,9 +34,6 @@ module _ (cs : List ℕ) (i : ℕ) (h : i < length cs) where
       → digits_from n (drop i cs) ≡ digits_from (n * 10 + (get_or cs i 0 - zero_digit)) (drop (suc i) cs)
   digit-here n e = rw (drop-cons cs i 0 h, e)
 
-  pub other-here : (n : ℕ) → is_digit (get_or cs i 0) ≡ false → digits_from n (drop i cs) ≡ None
-  other-here n e = rw (drop-cons cs i 0 h, e)
-
 -- ---- what `digits_from` found
 
 number_of : (b : Bool) (x m : ℕ) → cond b (Some x) None ≡ Some m → (b ≡ true) × (m ≡ x)
@@ -75,9 +72,6 @@ module _ (minus : Bool) (d : ℕ) (whole fraction : List ℕ) where
   no_fraction front e =
       let other = other-of (all_digits fraction) (number_from front fraction) e in
       refused-by (rw (all_append whole fraction, other, and-false (all_digits whole)))
-
-  pub no-digits : length whole + length fraction ≡ 0 → Err NoNumber ≡ of_parts minus d whole fraction
-  no-digits e = refused-by (rw (length-append whole fraction, e, and-false (all_digits (whole ++ fraction))))
 
   pub digits-say : (front n : ℕ) → digits_from 0 whole ≡ Some front → digits_from front fraction ≡ Some n
       → (length whole + length fraction ≡ 0 → ⊥)

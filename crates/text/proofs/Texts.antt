@@ -101,9 +101,9 @@ module _ (width d : ℕ) (v : ℤ) where
       (λ few. text-length width d (lt_z v (pos 0)) (nat_abs v) wide few)
 
   -- each of the three outcomes, by what leads to it
-  pub many-decimals : most_decimals < d → written width d v ≡ refusal width too_many_decimals
+  pub many_decimals : most_decimals < d → written width d v ≡ refusal width too_many_decimals
   unfolding written write_number
-  many-decimals many = rw (lt-leb d most_decimals many)
+  many_decimals many = rw (lt-leb d most_decimals many)
 
   pub fitting : d ≤ most_decimals → fits width d v ≡ true → written width d v ≡ accepted (text width d v)
   unfolding written write_number

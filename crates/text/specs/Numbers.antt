@@ -4,7 +4,8 @@ use Rattle.std.specs.Prelude.{ℕ, ◌+◌, Result, ℤ, pos}
 use Rattle.numbers.specs.declared.Refusal.{Refusal}
 use Rattle.numbers.specs.Refusals.{value_or}
 
--- how many characters a number has on the RKC line: as many when it is written, at most as many when it is read
+-- How many characters a number has on the RKC line: as many when it is written, at most as many when it is read. So many digits, times
+-- ten to the most decimals, are within 32 bits.
 abbrev pub width : ℕ
 width = 6
 
@@ -14,10 +15,6 @@ most_decimals = 3
 -- a minus, a digit, the point and the most decimals have room
 abbrev pub least_width : ℕ
 least_width = 3 + most_decimals
-
--- so many digits, times ten to the most decimals, are within 32 bits
-abbrev pub most_width : ℕ
-most_width = 6
 
 abbrev pub does_not_fit : ℕ
 does_not_fit = 8

@@ -69,6 +69,7 @@ fn digits_from(from: u32, chars: &[u8]) -> Option<u32>
 
 // What the characters before and after the point say. The quotient cuts the fraction off, and the sign comes last, so that the cut is
 // toward zero.
+#[tactic(auto, using(crate::proofs::Steps::no_whole, crate::proofs::Steps::no_fraction))]
 fn of_parts(minus: bool, decimals: Decimals, whole: &[u8], fraction: &[u8]) -> Result<i32, Refusal>
     requires { length whole.now + length fraction.now ≤ width }
     ensures { result ≡ of_parts minus decimals.count whole.now fraction.now }
@@ -149,6 +150,7 @@ fn layout(minus: bool, decimals: Decimals, size: u32) -> [u8; WIDTH]
 }
 
 // The value with its decimals in six characters.
+#[tactic(auto, using(crate::proofs::Texts::many_decimals))]
 pub fn write(decimals: u8, value: i32) -> Result<[u8; WIDTH], Refusal>
     ensures { written_as width result ≡ written width decimals value }
 {

@@ -1,26 +1,16 @@
 -- The two runs of digits are one number of at most `width` digits, so its product and its quotient are those of the definition.
-use Rattle.std.proofs.Common.{rules, ◌≡◌, ℕ, ◌+◌, ◌-◌, ◌*◌, ◌/◌, ◌^◌, ◌<◌, ◌≤◌, List, length, ap, ◌∙◌, arith, Some, None, Ok}
-use Rattle.std.proofs.lemmas.Result.{err_from_is_err_and}
+use Rattle.std.proofs.Common.{rules, ◌≡◌, ℕ, ◌+◌, ◌-◌, ◌*◌, ◌/◌, ◌^◌, ◌<◌, ◌≤◌, List, length, ap, ◌∙◌, arith, Some, Ok}
 use native.Mathlib.Nat.{one-le-pow}
-use Rattle.numbers.specs.declared.Refusal.TheVariants.{NoNumber}
 use Rattle.sign.proofs.Laws.{make-of, same}
 use Rattle.text.specs.Numbers.{width}
 use Rattle.text.specs.Reading.{digits_from}
 use Rattle.text.proofs.Numerals.{at_most}
-use Rattle.text.proofs.Steps.{digits-say, found_below, no_fraction, no_whole, number_small, scaled, sized}
+use Rattle.text.proofs.Steps.{digits-say, found_below, number_small, scaled, sized}
 use Rattle.text.proofs.of_parts.Goals as goal
 use Rattle.text.proofs.of_parts.Goals.{else-is_empty-via-then-is_empty+else-is_empty-2, else-is_empty-via-else-is_empty}
 
 pub digits_from-requires : goal.digits_from-requires
 digits_from-requires c = (omega (arith, c.requires), one-le-pow (width - length c.args.whole.now) 10 (omega arith))
-
-pub returns-in_err-front : goal.returns-in_err-front
-returns-in_err-front c =
-    let s = c.args in
-    let given = err_from_is_err_and c.from_residual.result c.from_residual.ensures.1 in
-    let none : digits_from 0 s.whole.now ≡ None = grind arith in
-    let refused : c.in_err-front.field-0.0 ≡ NoNumber = grind arith in
-    rw (given.1, given.2, refused) (no_whole s.minus s.decimals.count s.whole.now s.fraction.now none)
 
 pub digits_from-requires-2 : goal.digits_from-requires-2
 digits_from-requires-2 c =
@@ -29,15 +19,6 @@ digits_from-requires-2 c =
     let small = found_below 0 0 s.whole.now c.in_ok-front.front (omega arith) front in
     let few = c.requires in
     (omega arith, at_most c.in_ok-front.front (0 + length s.whole.now) (width - length s.fraction.now) small (omega arith))
-
-pub returns-in_err-n : goal.returns-in_err-n
-returns-in_err-n c =
-    let s = c.args in
-    let given = err_from_is_err_and c.from_residual-in_err-n.result c.from_residual-in_err-n.ensures.1 in
-    let front = c.in_ok-front.front in
-    let none : digits_from front s.fraction.now ≡ None = grind arith in
-    let refused : c.in_err-n.field-0.0 ≡ NoNumber = grind arith in
-    rw (given.1, given.2, refused) (no_fraction s.minus s.decimals.count s.whole.now s.fraction.now front none)
 
 -- all digits are at most `width`
 below : (whole fraction : List ℕ) (front n : ℕ) → length whole + length fraction ≤ width → digits_from 0 whole ≡ Some front

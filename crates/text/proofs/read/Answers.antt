@@ -1,10 +1,10 @@
 -- Each test of the code is one of the definition's.
-use Rattle.std.proofs.Common.{rules, true, ap, Bool, Bor, List, ℕ, ℤ, Result, ◌≡◌, ◌≤◌, get_or, ◌∙◌}
+use Rattle.std.proofs.Common.{arith, rules, true, ap, Bool, Bor, List, ℕ, ℤ, Result, ◌≡◌, get_or, ◌∙◌}
 use Rattle.std.proofs.lemmas.Result.{err_from_is_err_and}
 use borrow.Author.Rules.{part_to_end}
 use Rattle.numbers.specs.declared.Refusal.{Refusal}
 use Rattle.text.specs.Characters.{minus_sign}
-use Rattle.text.specs.Numbers.{width, most_decimals}
+use Rattle.text.specs.Numbers.{width}
 use Rattle.text.specs.Reading.{of_unsigned}
 use Rattle.text.proofs.Readings.{read-decimals, read-long, read-text}
 use Rattle.text.proofs.Steps.{with-minus, without-minus}
@@ -19,17 +19,15 @@ returns-in_err-decimals c =
 
 pub returns-then-chars-gt-WIDTH : goal.returns-then-chars-gt-WIDTH
 returns-then-chars-gt-WIDTH c =
-    let few : c.args.decimals ≤ most_decimals = rw (← c.in_ok-decimals.ensures) c.in_ok-decimals.decimals.few in
-    read-long width c.args.decimals c.args.chars.now few c.if-chars-gt-WIDTH.true
+    read-long width c.args.decimals c.args.chars.now (omega arith) c.if-chars-gt-WIDTH.true
 
 pub returns : goal.returns
 returns c =
     let s = c.args in
     let chars = s.chars.now in
-    let few : s.decimals ≤ most_decimals = rw (← c.in_ok-decimals.ensures) c.in_ok-decimals.decimals.few in
     let said : Bool × Bor (List ℕ) → Result ℤ Refusal = λ p. of_unsigned p.0 s.decimals p.1.now in
     let unsigned = rw c.in_ok-decimals.ensures at c.of_unsigned.ensures in
-    read-text width s.decimals chars few c.if-chars-gt-WIDTH.false
+    read-text width s.decimals chars (omega arith) c.if-chars-gt-WIDTH.false
     (elim c.if-chars-lt1.branch [
       | in-45 w ↦
           let minus : get_or chars 0 0 ≡ minus_sign = search rules in
