@@ -1,8 +1,7 @@
 -- What the definitions of the steps give in each case, for the proofs of the functions that take that way.
 -- Assumes nothing.
-use Rattle.std.proofs.Common.{◌≡◌, ℕ, ◌+◌, ◌<◌, ◌≤◌, Bool, true, false, leb, List, [], ◌∷◌, map, length, ℤ, sym, refl, ap, ◌∙◌, subst, arith, eq-eqb, ne_eqb, le-leb, leb-true}
+use Rattle.std.proofs.Common.{◌≡◌, ℕ, ◌+◌, ◌≤◌, Bool, true, false, leb, List, [], ◌∷◌, map, length, ℤ, sym, refl, ◌∙◌, subst, arith, eq-eqb, ne_eqb, le-leb, leb-true}
 use mathlib.Core.Path.{subst⁻¹}
-use borrow.Author.Tests.{lt-leb}
 use Rattle.std.specs.Prelude.{Result, Ok, Err}
 use Rattle.numbers.specs.declared.Refusal.{Refusal}
 use Rattle.numbers.specs.Numbers.{none, unless, first_met, short_buffer, least_buffer, bad_setting}

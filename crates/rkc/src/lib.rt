@@ -59,6 +59,7 @@ impl Link {
     }
 
     // One received byte.
+    #[tactic(auto, unfolding(crate::specs::Outcome::received, crate::specs::Outcome::byte_fault))]
     pub fn byte(
         self,
         table: &mut [i32],
@@ -93,6 +94,7 @@ impl Link {
     }
 
     // No byte came: a host that is waited on for three seconds or more is told EOT.
+    #[tactic(auto, unfolding(crate::specs::Outcome::idled, crate::specs::Outcome::idle_fault, crate::specs::Outcome::step_fault))]
     pub fn idle(self, reply: &mut [u8], structure: u8, time: u32) -> Stepped
         ensures { Idles
             (record { link = self; buffer = reply.old; structure = structure; time = time })

@@ -1,8 +1,7 @@
 -- `Link::byte` meets its contract: what the byte asks for is performed, or a fault hands all back.
 use Rattle.std.proofs.Common.{sym, refl}
-use Rattle.numbers.proofs.Refusals.{refusal-met}
 use Rattle.rkc.specs.Outcome.{ByteCall, byte_fault}
-use Rattle.rkc.proofs.Cases.{does-by, byte-none, received-fault, received-act}
+use Rattle.rkc.proofs.Cases.{does-by, byte-none, received-act}
 use Rattle.rkc.proofs.Limits.{act-limited}
 use Rattle.rkc.proofs.Link.byte.Goals as goal
 
@@ -20,11 +19,3 @@ returns c =
     let a = c.args in
     let call : ByteCall = record { link = a.self; table = a.table.now; buffer = a.reply.now; address = a.address; structure = a.structure; time = a.time; byte = a.byte } in
     does-by (received-act call c.in_default.ensures refl c.heard-c.ensures c.decide-act.ensures) c.perform.ensures
-
-pub returns-in-Err : goal.returns-in-Err
-unfolding byte_fault
-returns-in-Err c =
-    let a = c.args in
-    let call : ByteCall = record { link = a.self; table = a.table.now; buffer = a.reply.now; address = a.address; structure = a.structure; time = a.time; byte = a.byte } in
-    does-by (received-fault call c.in-Err.ensures (refusal-met c.in-Err.refusal))
-    (record { steps = record { back = c.handed_back.ensures; sent = refl }; left = refl })

@@ -1,25 +1,11 @@
 -- `Link::idle` meets its contract: a fault; three seconds; another phase or too early.
-use Rattle.std.proofs.Common.{◌≡◌, sym, refl, ◌∙◌, arith, le-leb}
+use Rattle.std.proofs.Common.{◌≡◌, refl, ◌∙◌, le-leb}
 use borrow.Author.Tests.{lt-leb}
-use Rattle.numbers.proofs.Refusals.{refusal-met}
 use Rattle.rkc.specs.State.{used}
 use Rattle.rkc.specs.Outcome.{IdleCall, idle_fault, silent, passed}
-use Rattle.rkc.proofs.Cases.{steps-by, step-none, idled-fault, idled-fine, passed-other, passed-early, passed-late}
+use Rattle.rkc.proofs.Cases.{steps-by, idled-fine, passed-other, passed-early, passed-late}
 use Rattle.rkc.proofs.Link.idle.Goals as goal
 use Rattle.rkc.proofs.Link.idle.Goals.{else-self-eq-WAITING-via-then-self-eq-WAITING+else-elapsed-ge-PATIENCE, else-self-eq-WAITING-via-else-self-eq-WAITING}
-
-pub returns-in-Err : goal.returns-in-Err
-unfolding idle_fault
-returns-in-Err c =
-    let a = c.args in
-    let call : IdleCall = record { link = a.self; buffer = a.reply.now; structure = a.structure; time = a.time } in
-    steps-by (idled-fault call c.in-Err.ensures (refusal-met c.in-Err.refusal))
-    (record { back = c.handed_back.ensures; sent = refl })
-
-pub quit-requires : goal.quit-requires
-quit-requires c =
-    let fine = step-none _ _ _ (sym c.in_default.ensures) in
-    omega (arith, fine.roomy)
 
 pub returns-then-elapsed-ge-PATIENCE : goal.returns-then-elapsed-ge-PATIENCE
 unfolding idle_fault
