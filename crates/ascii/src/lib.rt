@@ -72,6 +72,7 @@ fn put_bytes(bytes: &mut [u8], characters: &[u8]) -> Option<()>
     ensures hex { is_some result ≡ all_hex characters.now }
     ensures stored { all_hex characters.now ≡ true → bytes.new ≡ sets bytes.old 0 (bytes_of characters.now) }
 {
+    // a byte's place is that of its two characters too, so one index serves what is read and what is written
     for i in 0..characters.len() / 2 {
         bytes[i] = 16 * half_of(characters[2 * i])? + half_of(characters[2 * i + 1])?;
     }
@@ -217,6 +218,7 @@ pub fn line(table: &mut [i32], reply: &mut [u8], address: u8, line: &[u8]) -> An
     }) line.now) result reply.old reply.new table.new }
 {
     let mut bytes = [0u8; LONGEST_FRAME];
+    // a line of a wrong form has no bytes
     let n = take_apart(&mut bytes, line).unwrap_or(0);
     if let Err(fault) = bytes_fault(&bytes[..n]) {
         return refuse(&table[..], &reply[..], address, fault);

@@ -17,7 +17,7 @@ pub fn is_address(address: u8) -> bool
     (FIRST_ADDRESS..=LAST_ADDRESS).contains(&address)
 }
 
-// The caller's fault.
+// The caller's fault. What it hands in stays apart: in one struct, clauses would name what is lent for writing by nested pairs.
 #[tactic(auto, unfolding(crate::specs::Call::call_fault))]
 pub fn fault(table: &[i32], reply: &[u8], address: u8) -> Result<(), Refusal>
     ensures { number_given result
