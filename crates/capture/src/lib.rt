@@ -44,6 +44,7 @@ fn two_at(capture: &[u8], i: usize) -> usize
 }
 
 // ---- a record: the bytes of a frame, then two with their number
+// A capture and a place stand apart here, since these are the public functions: a walk back holds both in one.
 
 // How many bytes the frame has whose record ends in front of a place.
 #[tactic(auto, unfolding(crate::specs::Format::size))]
@@ -61,7 +62,7 @@ pub fn begins(capture: &[u8], end: usize) -> usize
     end.saturating_sub(size(capture, end) + SIZE_BYTES)
 }
 
-// Whether a record ends there.
+// Whether a record ends there: three tests in one, with no branch.
 #[tactic(auto, using(crate::proofs::Parts::size_small), unfolding(crate::specs::Format::record_ends))]
 pub fn record_ends(capture: &[u8], end: usize) -> bool
     ensures { result ≡ record_ends capture.now end }

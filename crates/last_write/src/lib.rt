@@ -25,6 +25,7 @@ fn walk(capture: &[u8], address: u8, item: u32) -> Result<LastWrite, Refusal>
         capture,
         end: capture::trailer_begins(capture),
     };
+    // No `for` over `&mut back`: what it leaves in `back`, which is looked at behind the loop, is not proved.
     while let Some(end) = back.next() {
         records += 1;
         let written = playback::wrote(address, capture::frame_before(capture, end), place);
