@@ -1,5 +1,6 @@
 // Characters on the RKC line: whether a byte keeps the line structure, how it is heard and sent, and the BCC.
-// What is heard is one number: 00H to 7FH is a character, and 80H up a line error with its low seven bits.
+// What is heard is one number: 00H to 7FH is a character, and 80H up a line error with its low seven bits. The definition `heard` says
+// so, and the BCC takes in the low seven bits of either.
 #![tactic(auto)]
 
 ghost use Rattle.std.specs.Prelude.{◌≡◌};
@@ -17,7 +18,7 @@ pub const ACK: u8 = 0x06;
 
 pub const NAK: u8 = 0x15;
 
-// The line structures are 0, 1 and 2.
+// The line structures are 0, 1 and 2: numbers, as the C interface hands them over.
 pub const LAST_STRUCTURE: u8 = 2;
 
 // The bit above the seven of a character.
