@@ -2,7 +2,7 @@
 -- Assumes nothing.
 use mathlib.Core.Path.{◌≡◌, sym, ap, ◌∙◌}
 use mathlib.Core.List.{List}
-use Prim.Native.Nat.{ℕ, ◌+◌, ◌-◌, ◌<◌, ◌≤◌}
+use Prim.Native.Nat.{ℕ, ◌+◌, ◌-◌, ◌<◌}
 use native.Mathlib.Omega.{arith}
 use lib.ListN.{length, get_or, take, drop, length-append, take-append-drop}
 use lib.Seq.{take-append_seam, drop-append_seam, take-add}
@@ -29,10 +29,6 @@ module _ (c : List ℕ) (n : ℕ) where
 
   pub rest-cut : drop (length (take n c)) c ≡ drop n c
   rest-cut = ap (drop (length (take n c))) (sym (take-append-drop n c)) ∙ drop-append_seam (take n c) (drop n c)
-
-  -- which is no longer than all
-  pub cut_inside : length (take n c) ≤ length c
-  cut_inside = omega (arith, length-append (take n c) (drop n c), ap length (take-append-drop n c))
 
 module _ (c : List ℕ) (from n : ℕ) where
   -- n more from a place on reach as far behind that place as their part is long
