@@ -3,4 +3,3 @@ pub mod Tests
 pub mod Order
 pub mod Powers
 pub mod Single
-pub mod Outcomes

@@ -6,6 +6,7 @@ use Prim.Native.Nat.{ℕ}
 use native.Mathlib.Omega.{arith}
 use lib.ListN.{get_or}
 use Rattle.std.specs.Prelude.{Result, Ok, Err}
+use Rattle.std.specs.Result.{result_err}
 use Rattle.numbers.specs.declared.Refusal.{Refusal}
 use Rattle.numbers.specs.declared.Refusal.TheVariants.{WrongLength, EntryOutside, ShortBuffer, BadSetting, BadState, NoSuchItem, ValueOutside}
 use Rattle.numbers.specs.declared.Refusal.TheVariants.{DoesNotFit, TooManyDecimals}
@@ -14,7 +15,7 @@ use Rattle.numbers.specs.declared.Refusal.TheVariants.{WrongFrameLength, WrongCr
 use Rattle.numbers.specs.declared.Refusal.TheVariants.{UnknownFunction, WrongRegister, WrongData}
 use Rattle.numbers.specs.declared.Refusal.TheVariants.{NotBelonging, UnknownPolled, NotAwaited, TimedOut, ListEnded, NoRoom, BadCapture, NoSuchFrame}
 use Rattle.numbers.specs.Numbers.{none}
-use Rattle.numbers.specs.Refusals.{number_of, number_given, value_or}
+use Rattle.numbers.specs.Refusals.{number_of, number_if, number_given, value_or}
 use Rattle.numbers.specs.Promise.{Lent}
 
 -- the refusals by their numbers; at a number that none has another stands
@@ -124,3 +125,8 @@ module _ {A : Type 0} {number : ℕ} {lent : A} {x y : Result Unit Refusal} {aft
 -- an outcome is refused exactly where its number is met
 pub given-met : {A : Type 0} {x : Result A Refusal} {r : Refusal} → x ≡ Err r → number_given x ≡ none → ⊥
 given-met {r} e z = refusal-met r (sym (ap number_given e) ∙ z)
+
+-- the number of what an outcome was refused for is the one that it gives
+pub number_of_err : {A : Type 0} (x : Result A Refusal) → number_if (result_err x) ≡ number_given x
+number_of_err (Ok x) = refl
+number_of_err (Err r) = refl

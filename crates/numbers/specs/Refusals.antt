@@ -1,5 +1,5 @@
 -- The number that each refusal gives back, and the one that an outcome gives: a refusal's, or none.
-use Rattle.std.specs.Prelude.{ℕ, Result, Ok, Err}
+use Rattle.std.specs.Prelude.{ℕ, Option, Some, None, Result, Ok, Err}
 use Rattle.numbers.specs.declared.Refusal.{Refusal}
 use Rattle.numbers.specs.declared.Refusal.TheVariants.{WrongLength, EntryOutside, ShortBuffer, BadSetting, BadState, NoSuchItem, ValueOutside}
 use Rattle.numbers.specs.declared.Refusal.TheVariants.{DoesNotFit, TooManyDecimals}
@@ -44,7 +44,12 @@ number_of NoRoom = 46
 number_of BadCapture = 51
 number_of NoSuchFrame = 52
 
--- the number of the refusal, where something was refused
+-- the number given back where something may have been refused
+abbrev pub number_if : Option Refusal → ℕ
+number_if (Some refusal) = number_of refusal
+number_if None = none
+
+-- the number that an outcome gives back
 abbrev pub number_given : {A : Type 0} → Result A Refusal → ℕ
 number_given (Ok x) = none
 number_given (Err refusal) = number_of refusal

@@ -3,7 +3,7 @@
 #![tactic(auto)]
 
 ghost use Rattle.std.specs.Prelude.{◌≡◌};
-ghost use Rattle.numbers.specs.Refusals.{number_of, number_given};
+ghost use Rattle.numbers.specs.Refusals.{number_of, number_if};
 
 // Nothing is met.
 pub const NONE: u8 = 0;
@@ -83,12 +83,12 @@ impl Refusal {
     }
 }
 
-// The number that an outcome gives back: that of its refusal, and NONE where nothing was refused.
-pub fn number_given<T: Drop>(outcome: Result<T, Refusal>) -> u8
-    ensures { result ≡ number_given outcome }
+// The number that is given back where something may have been refused: NONE where nothing was.
+pub fn number_if(refused: Option<Refusal>) -> u8
+    ensures { result ≡ number_if refused }
 {
-    match outcome {
-        Ok(_) => NONE,
-        Err(refusal) => refusal.number(),
+    match refused {
+        Some(refusal) => refusal.number(),
+        None => NONE,
     }
 }
