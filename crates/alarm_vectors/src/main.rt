@@ -3,7 +3,7 @@
 #![tactic(auto)]
 
 use instrument::{A1, A2, AA, AB, F1, Instrument, M1};
-use numbers::number_given;
+use numbers::number_if;
 use std::rt::Stdout;
 
 // ---- the line of one example
@@ -36,7 +36,7 @@ fn put_number(out: &Stdout, puts: [i32; 3], number: u32, value: i32) {
     show::number(out, number.into());
     show::number(out, value.into());
     let put = table::put(&mut instrument.table, number, value);
-    came_of_it(out, number_given(put), instrument);
+    came_of_it(out, number_if(put.err()), instrument);
 }
 
 // The same by the item's place in the list.
@@ -72,7 +72,7 @@ fn table(out: &Stdout, values: [i32; 3], states: [i32; 2]) {
     [table[AA as usize], table[AB as usize]] = states;
     show::arrow(out);
     let put = table::put(&mut table, u32::from(F1) + 1, 0);
-    show::number(out, number_given(put).into());
+    show::number(out, number_if(put.err()).into());
     show::end_of_line(out);
 }
 

@@ -19,7 +19,7 @@ ghost use Rattle.panel.specs.Promise.{longest_reply, Holdable, Held, StepLeft, B
 
 use capture::Stretch;
 use last_write::LastWrite;
-use numbers::{Refusal, number_given};
+use numbers::{Refusal, number_if};
 use rkc::{Link, Stepped};
 
 // ---- what a step hands back
@@ -56,7 +56,7 @@ fn hold(state: &mut [u8], stepped: Stepped) -> u32
 pub fn vb_start_table(table: &mut [i32]) -> u32
     ensures { Lent (start_number table.old) (start_table table.old) result table.new }
 {
-    u32::from(number_given(table::start(table)))
+    u32::from(number_if(table::start(table).err()))
 }
 
 // The link starts at rest.
@@ -136,7 +136,7 @@ pub fn vb_put(table: &mut [i32], item: u32, value: i32) -> u32
     ensures { Lent (put_number table.old item value) (put_table table.old item value)
         result table.new }
 {
-    u32::from(number_given(table::put(table, item, value)))
+    u32::from(number_if(table::put(table, item, value).err()))
 }
 
 // Number text is read.
@@ -146,7 +146,7 @@ pub fn vb_read_text(decimals: u8, chars: &[u8], value: &mut i32) -> u32
 {
     let read = text::read(decimals, chars);
     *value = read.unwrap_or(0);
-    u32::from(number_given(read))
+    u32::from(number_if(read.err()))
 }
 
 // Number text is written, where there is room for six characters.
@@ -160,7 +160,7 @@ pub fn vb_write_text(decimals: u8, value: i32, chars: &mut [u8]) -> u32
     let written = text::write(decimals, value);
     let six = written.unwrap_or([0; text::WIDTH]);
     chars[..text::WIDTH].copy_from_slice(&six);
-    u32::from(number_given(written))
+    u32::from(number_if(written.err()))
 }
 
 // ---- captures
@@ -170,7 +170,7 @@ pub fn vb_playback(table: &mut [i32], address: u8, capture: &[u8]) -> u32
     ensures { Lent (play_number table.old address capture.now)
         (played table.old address capture.now) result table.new }
 {
-    u32::from(number_given(playback::play(table, address, capture)))
+    u32::from(number_if(playback::play(table, address, capture).err()))
 }
 
 // A frame of a capture is shown by its place and its length.
@@ -182,7 +182,7 @@ pub fn vb_show(capture: &[u8], frame: u32, place: &mut u32, length: &mut u32) ->
     let stretch = shown.unwrap_or(Stretch { place: 0, len: 0 });
     *place = stretch.place as u32;
     *length = stretch.len as u32;
-    u32::from(number_given(shown))
+    u32::from(number_if(shown.err()))
 }
 
 // What was last written to an item, by the value and the records that it sets; 256 more where a write was found.
@@ -203,5 +203,5 @@ pub fn vb_last_write(
     });
     *value = found.written.unwrap_or(0);
     *records = found.records as u32;
-    result(number_given(asked), usize::from(found.written.is_some()))
+    result(number_if(asked.err()), usize::from(found.written.is_some()))
 }
