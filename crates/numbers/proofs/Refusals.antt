@@ -5,7 +5,7 @@ use mathlib.Core.List.{List, [], ◌∷◌}
 use Prim.Native.Nat.{ℕ}
 use native.Mathlib.Omega.{arith}
 use lib.ListN.{get_or}
-use Rattle.std.specs.Prelude.{Result, Ok, Err}
+use Rattle.std.specs.Prelude.{Option, Result, Ok, Err}
 use Rattle.std.specs.Result.{result_err}
 use Rattle.numbers.specs.declared.Refusal.{Refusal}
 use Rattle.numbers.specs.declared.Refusal.TheVariants.{WrongLength, EntryOutside, ShortBuffer, BadSetting, BadState, NoSuchItem, ValueOutside}
@@ -130,3 +130,7 @@ given-met {r} e z = refusal-met r (sym (ap number_given e) ∙ z)
 pub number_of_err : {A : Type 0} (x : Result A Refusal) → number_if (result_err x) ≡ number_given x
 number_of_err (Ok x) = refl
 number_of_err (Err r) = refl
+
+pub given_if : {A : Type 0} {x : Result A Refusal} {refused : Option Refusal} {number : ℕ} → refused ≡ result_err x
+    → number ≡ number_if refused → number ≡ number_given x
+given_if {x} e n = n ∙ ap number_if e ∙ number_of_err x

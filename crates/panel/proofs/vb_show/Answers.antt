@@ -1,5 +1,6 @@
 -- `panel::vb_show`: place and length of a frame that is shown have room in 32 bits.
 use Rattle.std.proofs.Common.{arith, ◌∙◌}
+use Rattle.numbers.proofs.Refusals.{given_if}
 use Rattle.panel.proofs.Outcomes.{stretch-small, stretch-shown}
 use Rattle.panel.proofs.vb_show.Goals as goal
 
@@ -15,4 +16,4 @@ overflow_cast-length c =
 
 pub returns : goal.returns
 returns c =
-    stretch-shown _ _ _ _ _ c.unwrap_or-stretch.ensures c.look_up-shown.ensures (c.from.ensures ∙ c.number_given.ensures)
+    stretch-shown _ _ _ _ _ c.unwrap_or-stretch.ensures c.look_up-shown.ensures (c.from.ensures ∙ given_if c.err.ensures.value c.number_if.ensures)

@@ -2,6 +2,7 @@
 use Rattle.std.proofs.Common.{◌≡◌, ◌≤◌, length, sym, ◌∙◌, arith, rules}
 use Rattle.std.proofs.Math.Facts.{to_z-of_z}
 use Rattle.text.specs.Numbers.{width}
+use Rattle.numbers.proofs.Refusals.{given_if}
 use Rattle.panel.proofs.Outcomes.{text-given, text-chars, number-with-room, left-with-room}
 use Rattle.panel.proofs.vb_write_text.Goals as goal
 
@@ -12,7 +13,7 @@ returns c =
     let room : width ≤ length a.chars.now = omega arith in
     let long : length c.unwrap_or-six.result ≡ width = search rules in
     record {
-      given = c.from-2.ensures ∙ c.number_given.ensures ∙ text-given _ e ∙ sym (number-with-room a.decimals a.value a.chars.now room);
+      given = c.from-2.ensures ∙ given_if c.err.ensures.value c.number_if.ensures ∙ text-given _ e ∙ sym (number-with-room a.decimals a.value a.chars.now room);
       left = rw c.copy_from_slice.ensures.after
           (left-with-room a.decimals a.value a.chars.now room _ long (c.unwrap_or-six.ensures ∙ text-chars _ e));
     }
