@@ -131,6 +131,6 @@ pub number_of_err : {A : Type 0} (x : Result A Refusal) → number_if (result_er
 number_of_err (Ok x) = refl
 number_of_err (Err r) = refl
 
-pub given_if : {A : Type 0} {x : Result A Refusal} {refused : Option Refusal} {number : ℕ} → refused ≡ result_err x
+pub given_if : {A : Type 0} (x : Result A Refusal) {refused : Option Refusal} {number : ℕ} → refused ≡ result_err x
     → number ≡ number_if refused → number ≡ number_given x
-given_if {x} e n = n ∙ ap number_if e ∙ number_of_err x
+given_if x e n = n ∙ ap number_if e ∙ number_of_err x

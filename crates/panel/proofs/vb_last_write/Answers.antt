@@ -19,7 +19,7 @@ returns c =
     let found = answer-found _ c.unwrap_or-found.ensures c.ask-asked.ensures in
     record {
       given = c.result.ensures
-          ∙ ap₂ result_of (given_if c.err.ensures.value c.number_if.ensures ∙ found.given) (c.from.ensures ∙ ap from_bool c.is_some.ensures ∙ told-found found.written);
+          ∙ ap₂ result_of (given_if _ c.err.ensures.value c.number_if.ensures ∙ found.given) (c.from.ensures ∙ ap from_bool c.is_some.ensures ∙ told-found found.written);
       written = to_z-of_z {w = w32} (record { sfits = c.unwrap_or.type_inv }) ∙ c.unwrap_or.ensures ∙ told-value found.written;
       read = found.read;
     }

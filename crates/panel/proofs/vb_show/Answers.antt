@@ -16,4 +16,4 @@ overflow_cast-length c =
 
 pub returns : goal.returns
 returns c =
-    stretch-shown _ _ _ _ _ c.unwrap_or-stretch.ensures c.look_up-shown.ensures (c.from.ensures ∙ given_if c.err.ensures.value c.number_if.ensures)
+    stretch-shown _ _ _ _ _ c.unwrap_or-stretch.ensures c.look_up-shown.ensures (c.from.ensures ∙ given_if _ c.err.ensures.value c.number_if.ensures)

@@ -13,7 +13,7 @@ returns c =
     let room : width ≤ length a.chars.now = omega arith in
     let long : length c.unwrap_or-six.result ≡ width = search rules in
     record {
-      given = c.from-2.ensures ∙ given_if c.err.ensures.value c.number_if.ensures ∙ text-given _ e ∙ sym (number-with-room a.decimals a.value a.chars.now room);
+      given = c.from-2.ensures ∙ given_if _ c.err.ensures.value c.number_if.ensures ∙ text-given _ e ∙ sym (number-with-room a.decimals a.value a.chars.now room);
       left = rw c.copy_from_slice.ensures.after
           (left-with-room a.decimals a.value a.chars.now room _ long (c.unwrap_or-six.ensures ∙ text-chars _ e));
     }
