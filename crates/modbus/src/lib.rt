@@ -68,6 +68,7 @@ fn echo(reply: &mut [u8], body: &[u8]) -> usize
 // ---- 03H: a register to start from and a quantity
 
 // The registers, from the buffer's fourth byte on.
+// They go by their index, since the library's `chunks_exact_mut` promises nothing of what the buffer ends as.
 fn put_registers(table: &[i32], reply: &mut [u8], start: u16, quantity: u16)
     requires { (start + quantity < 0x10000) × (3 + 2 * quantity ≤ length reply.old) }
     ensures { reply.new

@@ -14,6 +14,7 @@ use numbers::Refusal;
 use registers::{BODY_LENGTH, DATA_PLACE};
 
 // ---- 06H: a register and a value
+// It has code of its own, though it asks for one write: through the loops of 10H it was measured as slower than libmodbus.
 
 // The fault of a request to write one register.
 fn write_fault(body: &[u8]) -> Result<(), Refusal>
