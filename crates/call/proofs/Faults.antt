@@ -1,13 +1,13 @@
 -- What a call is refused for, case by case, and what is known of one that is not refused.
 -- Assumes nothing.
 use mathlib.Core.Path.{◌≡◌, sym, ◌∙◌}
-use mathlib.Core.Bool.{true}
+use mathlib.Core.Bool.{Bool, true}
 use Prim.Native.Nat.{ℕ, ◌≤◌}
 use native.Mathlib.Omega.{arith}
 use borrow.Author.Tests.{leb-true, le-leb}
 use lib.Dec.{leb}
 use lib.ListN.{length}
-use Rattle.numbers.specs.Numbers.{none, short_buffer, least_buffer, bad_setting}
+use Rattle.numbers.specs.Numbers.{none, unless, short_buffer, least_buffer, bad_setting}
 use Rattle.numbers.proofs.Order.{this-first, next-first, neither-first, last-met, passed}
 use Rattle.table.specs.Table.{table_fault}
 use Rattle.call.specs.Call.{is_address, Call, call_fault, refusal}
@@ -15,6 +15,12 @@ use Rattle.call.specs.Call.{is_address, Call, call_fault, refusal}
 -- ---- the caller's faults
 
 module _ (call : Call) where
+  -- where the table and the buffer are right, the address decides
+  module _ (e : table_fault call.table ≡ none) (h : least_buffer ≤ length call.buffer) where
+    pub call-address : {b : Bool} → b ≡ is_address call.address → call_fault call ≡ unless b bad_setting
+    unfolding call_fault
+    call-address a = next-first _ _ e ∙ rw (le-leb least_buffer (length call.buffer) h, ← a) (last-met _)
+
   -- what a call is whose caller made no fault
   pub record Fine : Type 0 where
     pub table : table_fault call.table ≡ none

@@ -2,7 +2,7 @@
 -- at each number below a bound.
 -- Assumes nothing.
 use mathlib.Core.Path.{◌≡◌, refl, sym, ap, ◌∙◌}
-use mathlib.Core.Bool.{Bool, true, false, ◌&&◌}
+use mathlib.Core.Bool.{Bool, true, false, cond, ◌&&◌}
 use mathlib.Core.List.{List, [], ◌∷◌, ◌++◌, map}
 use Prim.Native.Nat.{ℕ, zero, suc, ◌<◌, ◌≤◌}
 use native.Mathlib.Nat.{not-suc-le-zero, le_of_suc-le-suc}
@@ -11,7 +11,7 @@ use borrow.Author.Tests.{eqb-true, eqb-false, ltb-true, ltb-false}
 use lib.Dec.{eqb, ltb}
 use lib.ListN.{length, get_or, get_or-eq_default, get_or-map}
 use Rattle.numbers.proofs.Tests.{contrary, both}
-use Rattle.items.specs.ItemList.{Item, items, map_size, item_list, no_item, item_at, lines, Sizes}
+use Rattle.items.specs.ItemList.{Item, items, map_size, item_list, no_item, item_at, lines, line_of, Sizes}
 
 -- what is read at a place inside a list does not depend on what stands past its end
 pub read-inside : {A : Type 0} (l : List A) (i : ℕ) (d e : A) → i < length l → get_or l i d ≡ get_or l i e
@@ -42,6 +42,14 @@ writable-listed i w = by (ltb i items) refl
 pub column-at : {A : Type 0} (f : Item → A) (i : ℕ) (d : A) → i ≤ items → get_or (map f lines) i d ≡ f (item_at i)
 column-at f i d h =
     read-inside (map f lines) i d (f no_item) (omega arith) ∙ get_or-map f lines i no_item ∙ ap f (one-line-more item_list i no_item)
+
+-- so it has, for every place, at the line of that place
+pub column : {A : Type 0} (f : Item → A) (i : ℕ) (d : A) → get_or (map f lines) (line_of i) d ≡ f (item_at i)
+column f i d = by (ltb i items) refl
+  where
+    by : (t : Bool) → ltb i items ≡ t → get_or (map f lines) (cond t i items) d ≡ f (item_at i)
+    by true e = let h = ltb-true i items e in column-at f i d (omega arith)
+    by false e = ap f (sym (line-past i (ltb-false i items e)))
 
 -- what a function says of each number below n, in their order
 abbrev pub values : {A : Type 0} → (ℕ → A) → ℕ → List A

@@ -1,5 +1,5 @@
 -- The item list of documents 01 and 02, and looking an item up in it. Inside, an item is known by its place in the list, from 0.
-use Rattle.std.specs.Prelude.{ℕ, suc, ◌<◌, ◌≡◌, Bool, true, false, cond, ◌&&◌, List, [], ◌∷◌, ◌++◌, eqb, leb, ℤ, pos, length, get_or, Option, Some, None}
+use Rattle.std.specs.Prelude.{ℕ, suc, ◌<◌, ◌≡◌, Bool, true, false, cond, ◌&&◌, List, [], ◌∷◌, ◌++◌, eqb, leb, ltb, ℤ, pos, length, get_or, Option, Some, None}
 use Rattle.std.specs.Int.Signed.{le_z}
 use Rattle.sign.specs.Sign.{minus}
 
@@ -70,6 +70,10 @@ item_at i = get_or item_list i no_item
 -- the lines by which the code has the list: its own, and last the line that is no item
 abbrev pub lines : List Item
 lines = item_list ++ (no_item ∷ [])
+
+-- which of them is the line at a place: past the list the last one
+abbrev pub line_of : ℕ → ℕ
+line_of i = cond (ltb i items) i items
 
 -- the two sizes are the list's: it has that many lines, and the register of each is in the map
 pub record Sizes : Type 0 where
