@@ -36,9 +36,7 @@ fn polled(out: &Stdout, xu: u8, place: u8, value: i32) {
     show::text(out, b"polled");
     show::number(out, xu.into());
     put_first(out, place, value);
-    let mut instrument = Instrument::start()
-        .with(XU, xu.into())
-        .with(place, value);
+    let mut instrument = Instrument::start().with(XU, xu.into()).with(place, value);
     let name = items::identifier(place as usize);
     let mut reply = [0u8; numbers::LEAST_BUFFER];
     for byte in [EOT, b'0', b'1', name[0], name[1], ENQ] {
