@@ -64,6 +64,15 @@ span-in-map r (high ∷ low ∷ bytes) a h =
     by true e one more = let m = more (ltb-true _ _ e) in omega arith
     by false e one more = omega (arith, ltb-false 0 (length (writes (suc r) bytes)) e)
 
+-- so a span that leaves the map has a register that is not writable
+pub span-past-map : (r : ℕ) (bytes : List ℕ) → 0 < length (writes r bytes) → map_size < r + length (writes r bytes)
+    → each writable (writes r bytes) ≡ false
+span-past-map r bytes some past = by (each writable (writes r bytes)) refl
+  where
+    by : (b : Bool) → each writable (writes r bytes) ≡ b → each writable (writes r bytes) ≡ false
+    by true e = absurd (let inside = span-in-map r bytes e some in omega arith)
+    by false e = e
+
 -- an entry whose register is outside the span stays, the alarm states apart
 pub outside-stays : (t : List ℤ) (r : ℕ) (bytes : List ℕ) (i : ℕ) → is_alarm_state i ≡ false → each writable (writes r bytes) ≡ true
     → Outside r (length (writes r bytes)) (item_at i).register → entry (stored_all t (writes r bytes)) i ≡ entry t i
