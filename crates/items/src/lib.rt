@@ -50,12 +50,6 @@ const NO_ITEM: Item = Item { name: [0, 0], writable: false, decimals: Some(0), l
 
 // Columns of the list, for what goes over many entries: the processor compares four limits at once only where they stand side by side.
 #[rattlefmt::skip]
-pub const WRITABLE: [bool; LINES] = [
-    LIST[0].writable, LIST[1].writable, LIST[2].writable, LIST[3].writable, LIST[4].writable, LIST[5].writable, LIST[6].writable,
-    LIST[7].writable, LIST[8].writable, LIST[9].writable, LIST[10].writable, LIST[11].writable, LIST[12].writable, NO_ITEM.writable,
-];
-
-#[rattlefmt::skip]
 pub const LOW: [i32; LINES] = [
     LIST[0].low, LIST[1].low, LIST[2].low, LIST[3].low, LIST[4].low, LIST[5].low, LIST[6].low,
     LIST[7].low, LIST[8].low, LIST[9].low, LIST[10].low, LIST[11].low, LIST[12].low, NO_ITEM.low,
@@ -77,7 +71,7 @@ pub const START: [i32; LINES] = [
 const NOWHERE: u8 = ITEMS as u8;
 
 // The place of the item that has a register, for each register of the map, and last for those past it.
-pub const PLACE_AT: [u8; MAP_SIZE + 1] = [
+const PLACE_AT: [u8; MAP_SIZE + 1] = [
     0, // 0000H
     1, // 0001H
     2, // 0002H
