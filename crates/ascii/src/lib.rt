@@ -150,7 +150,8 @@ fn spread(buffer: &mut [u8], n: usize)
     }
 }
 
-// The body that a buffer's first n bytes are becomes its line, whose length is handed back.
+// The body that a buffer's first n bytes are becomes its line, whose length is handed back. The buffer stays whole, since the line is
+// longer than the body and is written over it.
 fn write_line(buffer: &mut [u8], n: usize) -> usize
     requires { 2 * n + 5 ≤ length buffer.old }
     ensures { Writes buffer.old n buffer.new result }

@@ -53,7 +53,8 @@ pub fn is_right(frame: &[u8]) -> bool
 }
 
 // Writes the CRC of a buffer's first n bytes behind them and hands back the length of that frame; where the buffer has no
-// room for it, nothing is written and there is no length. Nothing is added to n before the test, since n may be any number.
+// room for it, nothing is written and there is no length. The buffer is longer than what it holds, since the CRC needs room behind.
+// Nothing is added to n before the test, since n may be any number.
 pub fn seal(buffer: &mut [u8], n: usize) -> Option<usize>
     ensures frame { Seals buffer.old n buffer.new (unwrap_or result 0) }
     ensures room { is_some result ≡ has_room buffer.old n }

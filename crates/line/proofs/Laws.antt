@@ -14,12 +14,6 @@ use Rattle.line.specs.Line.{top_bit, low_seven, within, printable}
 pub within_in : (a b x : ℕ) → a ≤ x → x ≤ b → within a b x ≡ true
 within_in a b x low high = simp (le-leb a x low, le-leb x b high)
 
-pub within-below : (a b x : ℕ) → x < a → within a b x ≡ false
-within-below a b x low = simp (lt-leb a x low)
-
-pub within-above : (a b x : ℕ) → b < x → within a b x ≡ false
-within-above a b x high = simp (lt-leb x b high) (and-false (leb a x))
-
 -- what a range holds is between its ends
 pub within-true : (a b x : ℕ) → within a b x ≡ true → (a ≤ x) × (x ≤ b)
 within-true a b x e = let h = both (leb a x) (leb x b) e in (leb-true a x h.0, leb-true x b h.1)

@@ -94,11 +94,6 @@ module _ (t : List ℤ) (address : ℕ) (body : List ℕ) where
   unfolding acted_within
   without-room room h = rw (lt-leb least_buffer room h)
 
--- a message that is ours has an address and a function
-pub ours-head : (address : ℕ) (body : List ℕ) → ours address body ≡ true → head_length ≤ length body
-ours-head address body e =
-    leb-true head_length (length body) (both (leb head_length (length body)) (eqb (address_of body) address) e).0
-
 -- silence leaves the buffer and the table
 pub gives-silence : (t : List ℤ) (number : ℕ) (buffer : List ℕ) (r : Answered) → r ≡ record { number = number; len = 0 }
     → Gives (silent t number) r buffer buffer t

@@ -48,16 +48,7 @@ pub line-short : (call : Call) (line : List ℕ) {a : Answered} {before after : 
     → Gives (acted_on call line) a before after left → a.len ≤ longest_reply
 line-short call line = gives-short (line-reply-short call line)
 
--- what the library promises of its answer is promised of the result
-pub gives-in : (r : ℕ) {o : Outcome} {before after : List ℕ} {left : List ℤ} {a : Answered} → a.number < 256
-    → r ≡ result_of a.number a.len → Gives o a before after left → Gives o (answer_in r) before after left
-gives-in r {o} {before} {after} {left} n e = subst (λ (x : Answered). Gives o x before after left) (answer-held n e)
-
 module _ {call : Call} {after : List ℕ} {left : List ℤ} (r : ℕ) where
-  pub acts-in : {frame : List ℕ} {a : Answered} → a.number < 256 → r ≡ result_of a.number a.len
-      → Acts call frame a after left → Acts call frame (answer_in r) after left
-  acts-in {frame} n e = subst (λ (x : Answered). Acts call frame x after left) (answer-held n e)
-
   -- every call that keeps its promise meets demand 1
   pub demand-1-rtu : (frame : List ℕ) → Acts call frame (answer_in r) after left → OfCall call (answer_in r) after left
   demand-1-rtu frame = demand-1-frame call frame

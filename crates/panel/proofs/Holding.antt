@@ -24,10 +24,6 @@ holdable s step r short whole back =
     let few : length step.reply ≤ longest_reply = omega arith in
     record { short = rw back few; whole = rw back whole }
 
-step_left : {step : Step} {r : Stepped} {n : ℕ} {s held before after : List ℕ} → Steps step r before after → Held r n s held
-    → StepLeft step n s held before after
-step_left p h = record { given = h.given ∙ rw p.back; holds = h.holds ∙ rw p.back; sent = p.sent }
-
 -- a call on a state, made of the state that the bytes hold
 module _ (s : List ℕ) (of : Link → ByteCall) (on : (of (unpacked s)).link ≡ unpacked s) {l : Link} {r : Stepped} {after : List ℕ} {left : List ℤ}
     (e : l ≡ unpacked s) (p : Leads (of l) r after left) where
@@ -38,10 +34,6 @@ module _ (s : List ℕ) (of : Link → ByteCall) (on : (of (unpacked s)).link �
   byte-holdable =
       holdable s (received (of (unpacked s))).step r (received-short (of (unpacked s))) (received-whole s (of (unpacked s)) on) leads.steps.back
 
-  pub byte_left : {n : ℕ} {held : List ℕ} → Held r n s held
-      → ByteLeft (received (of (unpacked s))) n s held (of (unpacked s)).buffer after left
-  byte_left h = record { step = step_left leads.steps h; left = leads.left }
-
 module _ (s : List ℕ) (of : Link → IdleCall) (on : (of (unpacked s)).link ≡ unpacked s) {l : Link} {r : Stepped} {after : List ℕ}
     (e : l ≡ unpacked s) (p : Idles (of l) r after) where
   idles : Idles (of (unpacked s)) r after
@@ -50,6 +42,3 @@ module _ (s : List ℕ) (of : Link → IdleCall) (on : (of (unpacked s)).link �
   pub idle-holdable : Holdable r s
   idle-holdable =
       holdable s (idled (of (unpacked s))) r (idled-short (of (unpacked s))) (idled-whole s (of (unpacked s)) on) idles.back
-
-  pub idle-left : {n : ℕ} {held : List ℕ} → Held r n s held → StepLeft (idled (of (unpacked s))) n s held (of (unpacked s)).buffer after
-  idle-left h = step_left idles h

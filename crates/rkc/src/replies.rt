@@ -68,7 +68,8 @@ pub(crate) fn quit(reply: &mut [u8], structure: u8, refusal: Refusal) -> Stepped
     send_one(reply, structure, EOT, in_phase(REST), refusal.number())
 }
 
-// An item's data reply about its six characters. The BCC goes over what stands between STX and itself.
+// An item's data reply about its six characters. The BCC goes over what stands between STX and itself. Written out, the
+// array shows the whole reply, which copies of its parts would not.
 pub(crate) fn data_reply(i: usize, six: [u8; 6]) -> [u8; 11]
     ensures { result ≡ data_reply i six }
 {

@@ -34,10 +34,6 @@ module _ (address : ℕ) (body : List ℕ) where
   unfolding accepts_write
   wrong-form o f = rw (o, f)
 
-  pub by-writes : ours address body ≡ true → right_form body ≡ true → accepts_write address body ≡ each allowed (writes_of body)
-  unfolding accepts_write
-  by-writes o f = rw (o, f)
-
 -- ---- by the function
 
 module _ (body : List ℕ) where

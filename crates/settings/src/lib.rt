@@ -44,6 +44,7 @@ fn right_form(body: &[u8]) -> bool
 }
 
 // Whether a message is a write that the rules accept, for a device with this address.
+#[tactic(auto, unfolding(crate::specs::Settings::accepts_write))]
 pub fn accepts_write(address: u8, body: &[u8]) -> bool
     ensures { result ≡ accepts_write address body.now }
 {

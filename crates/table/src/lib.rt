@@ -138,7 +138,8 @@ pub fn answer(table: &[i32], i: usize) -> i32
     entry_at(table, i)
 }
 
-// The decimals that XU gives: its entry, and none where that is outside its range, which it is in no good table.
+// The decimals that XU gives: its entry, and none where that is outside its range, which it is in no good table. The range tells that
+// the cast loses nothing, so that no conversion has to try it again.
 #[tactic(auto, unfolding(crate::specs::Table::xu_of, items::specs::ItemList::in_range))]
 pub fn xu(table: &[i32]) -> u8
     ensures { result ≡ xu_of table.now }
