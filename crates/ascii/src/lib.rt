@@ -45,7 +45,7 @@ fn digit_of(half: u8) -> u8
     }
 }
 
-// The two characters of a byte, at a place of the buffer.
+// The two characters of a byte, at a place of the buffer. Two stores say it as plainly as a copy of the pair.
 fn put_hex(buffer: &mut [u8], at: usize, byte: u8)
     requires { at + 2 ≤ length buffer.old }
     ensures { buffer.new ≡ sets buffer.old at (hex_of (byte ∷ [])) }

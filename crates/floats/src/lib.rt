@@ -4,7 +4,7 @@
 ghost use Rattle.std.specs.Prelude.{◌≡◌, ◌≤◌, ◌^◌};
 ghost use Rattle.floats.specs.Quotient.{most_decimals, exact, float_bits};
 
-// The most decimals, and the powers of ten up to it.
+// The most decimals, and the powers of ten up to it: a table has each in one step.
 const MOST_DECIMALS: u8 = 3;
 
 const TENS: [u16; MOST_DECIMALS as usize + 1] = [1, 10, 100, 1000];

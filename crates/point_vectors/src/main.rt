@@ -64,11 +64,7 @@ fn exchange(out: &Stdout, mut instrument: Instrument, frame: &[u8]) {
     show::part(out, frame, 0, frame.len().saturating_sub(2));
     let mut reply = [0u8; numbers::LEAST_BUFFER];
     let answered = rtu::frame(&mut instrument.table, &mut reply, 1, frame);
-    show::arrow(out);
-    show::number(out, answered.number.into());
-    show::text(out, b":");
-    show::part(out, &reply, 0, answered.len);
-    show::end_of_line(out);
+    show::answer(out, answered.number, &reply, answered.len);
 }
 
 fn ask(out: &Stdout, frame: &[u8]) {

@@ -37,5 +37,8 @@ number = record { asks_nothing = λ κs a. tt; single = λ κs a o u p q. refl &
 pub numbers : OneOutcome contract.numbers.ended show.numbers.Reads.Asked show.numbers.Reads.Post
 numbers = record { asks_nothing = λ κs a. tt; single = λ κs a o u p q. refl & refl }
 
+pub answer : OneOutcome contract.answer.ended show.answer.Reads.Asked show.answer.Reads.Post
+answer = record { asks_nothing = λ κs a. tt; single = λ κs a o u p q. refl & refl }
+
 pub count : OneOutcome contract.count.ended show.count.Reads.Asked show.count.Reads.Post
 count = record { asks_nothing = λ κs a. tt; single = λ κs a o u p q. refl & refl }

@@ -55,6 +55,15 @@ pub fn numbers(out: &Stdout, values: &[i32]) {
     }
 }
 
+// The number that is given back, and as many bytes of a buffer as are the reply; with that the line ends.
+pub fn answer(out: &Stdout, given: u8, reply: &[u8], len: usize) {
+    arrow(out);
+    number(out, given.into());
+    text(out, b":");
+    part(out, reply, 0, len);
+    end_of_line(out);
+}
+
 // How many there are. That each function of a library has one outcome is said of functions without type parameters, so this one and
 // `number` stay two.
 pub fn count(out: &Stdout, n: usize) {

@@ -5,7 +5,7 @@ ghost use Rattle.std.specs.Prelude.{◌≡◌, nat_abs};
 ghost use Rattle.std.specs.Int.Signed.{lt_z};
 ghost use Rattle.sign.specs.Sign.{made};
 
-// Whether a is below b.
+// Whether a is below b. This and `size` say of the machine's own what the definitions of signed numbers say.
 pub fn less(a: i32, b: i32) -> bool
     ensures { result ≡ lt_z a b }
 {

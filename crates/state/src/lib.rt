@@ -10,7 +10,7 @@ use rkc::Link;
 // How many bytes hold the link state.
 pub const STATE_BYTES: usize = 24;
 
-// A phase that no link has.
+// A phase that no link has. It is a number, as phases are.
 const UNKNOWN_PHASE: u8 = 255;
 
 // The state, each field from its place.

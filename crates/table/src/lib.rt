@@ -153,7 +153,7 @@ pub fn xu(table: &[i32]) -> u8
 }
 
 // An item takes a value, and AA and AB are made true again. Past the table's end nothing happens: if they were made true there too,
-// the compiler would hold M1, A1 and A2 from the table's check on, at each call.
+// the compiler would hold M1, A1 and A2 from the table's check on, at each call. It is written at its index, as in `set_entry`.
 #[tactic(auto, unfolding(crate::specs::Table::stored))]
 pub fn store(table: &mut [i32], i: usize, value: i32)
     ensures { table.new ≡ stored table.old i value }

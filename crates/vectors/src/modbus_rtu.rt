@@ -25,15 +25,6 @@ pub fn crc(out: &Stdout, bytes: &[u8]) {
     show::end_of_line(out);
 }
 
-// The number and the reply.
-fn show_answer(out: &Stdout, answered: Answered, reply: &[u8]) {
-    show::arrow(out);
-    show::number(out, answered.number.into());
-    show::text(out, b":");
-    show::part(out, reply, 0, answered.len);
-    show::end_of_line(out);
-}
-
 pub fn rtu(out: &Stdout, address: u8, frame: &[u8]) {
     show::text(out, b"rtu");
     show::byte(out, address);
@@ -42,7 +33,7 @@ pub fn rtu(out: &Stdout, address: u8, frame: &[u8]) {
     let mut table = Instrument::start().table;
     let mut reply = [0u8; numbers::LEAST_BUFFER];
     let answered = rtu::frame(&mut table, &mut reply, address, frame);
-    show_answer(out, answered, &reply);
+    show::answer(out, answered.number, &reply, answered.len);
 }
 
 // A request is sent to an address and answered there: the frame has the address in front and the CRC behind.
@@ -61,7 +52,7 @@ fn show_exchange(out: &Stdout, mut instrument: Instrument, address: u8, request:
     show::bytes(out, request);
     let mut reply = [0u8; numbers::LEAST_BUFFER];
     let answered = exchange(&mut instrument.table, &mut reply, address, request);
-    show_answer(out, answered, &reply);
+    show::answer(out, answered.number, &reply, answered.len);
 }
 
 pub fn ask(out: &Stdout, address: u8, request: &[u8]) {
