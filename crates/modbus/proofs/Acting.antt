@@ -1,26 +1,27 @@
 -- What comes of a message, case by case: by its fault, by its function, and by its address and the buffer's room.
 -- Assumes nothing.
-use mathlib.Core.Path.{◌≡◌, refl, sym, ap₂, subst, subst⁻¹, ◌∙◌}
+use mathlib.Core.Path.{◌≡◌, refl, sym, ap, ap₂, subst, subst⁻¹, ◌∙◌}
 use mathlib.Core.Bool.{true, false}
-use mathlib.Core.List.{List}
+use mathlib.Core.List.{List, ◌++◌}
 use Prim.Native.Nat.{ℕ, ◌≤◌, ◌<◌}
-use borrow.Author.Tests.{ne_eqb, leb-true, le-leb, lt-leb}
-use lib.Dec.{eqb, leb}
+use borrow.Author.Tests.{ne_eqb, le-leb, lt-leb}
 use lib.IntN.{ℤ}
-use lib.ListN.{length}
+use native.Mathlib.Omega.{arith}
+use lib.ListN.{length, take, drop, take-append-drop}
+use lib.Seq.{sets, length-take-le}
 use Rattle.numbers.specs.declared.Refusal.{Refusal}
 use Rattle.numbers.specs.Numbers.{none, unless_met, short_buffer, least_buffer}
 use Rattle.numbers.specs.Refusals.{number_of}
 use Rattle.numbers.proofs.Refusals.{refusal-met}
-use Rattle.numbers.proofs.Tests.{both}
 use Rattle.numbers.proofs.Order.{is-refused, is-done}
 use Rattle.registers.proofs.Faults.{Numbered, numbered_of}
 use Rattle.modbus.specs.declared.Answered.{Answered}
 use Rattle.modbus.specs.Outcome.{Outcome, other_address, unknown_function, silent, exception}
-use Rattle.modbus.specs.Outcome.{head_length, address_of, function_of}
+use Rattle.modbus.specs.Outcome.{function_of}
 use Rattle.modbus.specs.Rules.{read_registers, write_register, loopback, write_several, ours}
 use Rattle.modbus.specs.Rules.{reading, writing, looping_back, writing_several, obeying, acted, acted_within}
 use Rattle.modbus.specs.Promise.{Gives, Puts, Refuses}
+use Rattle.modbus.proofs.Stores.{sets-front}
 
 -- ---- a fault, or none
 
@@ -100,3 +101,21 @@ pub gives-silence : (t : List ℤ) (number : ℕ) (buffer : List ℕ) (r : Answe
 gives-silence t number buffer r e =
     subst⁻¹ (λ (a : Answered). Gives (silent t number) a buffer buffer t) e
     (record { sends = record { given = refl; len = refl; sent = refl }; table = refl })
+
+-- a reply in the buffer's front, in which it has room, is in the buffer
+pub gives-front : {o : Outcome} {r : Answered} (buffer : List ℕ) {front after : List ℕ} {left : List ℤ} → least_buffer ≤ length buffer
+    → length o.reply ≤ least_buffer → front ≡ take least_buffer buffer → Gives o r front after left
+    → Gives o r buffer (after ++ drop least_buffer buffer) left
+gives-front {o} buffer {front} {after} room short is g =
+    let rest = drop least_buffer buffer in
+    let long : length (take least_buffer buffer) ≡ least_buffer = length-take-le least_buffer buffer room in
+    record {
+      sends = record {
+        given = g.sends.given;
+        len = g.sends.len;
+        sent = ap (λ (l : List ℕ). l ++ rest) (g.sends.sent ∙ ap (λ (l : List ℕ). sets l 0 o.reply) is)
+            ∙ sym (sets-front (take least_buffer buffer) rest 0 o.reply (omega arith))
+            ∙ ap (λ (l : List ℕ). sets l 0 o.reply) (take-append-drop least_buffer buffer);
+      };
+      table = g.table;
+    }

@@ -1,14 +1,14 @@
 -- Storing a run of registers, by those that are left.
 -- Assumes nothing.
-use mathlib.Core.Path.{◌≡◌, refl, sym}
-use mathlib.Core.List.{List}
-use Prim.Native.Nat.{ℕ, zero, suc, ◌+◌, ◌-◌, ◌*◌, ◌/◌, ◌%◌, ◌<◌}
+use mathlib.Core.Path.{◌≡◌, refl, sym, ap, ◌∙◌}
+use mathlib.Core.List.{List, [], ◌∷◌, ◌++◌}
+use Prim.Native.Nat.{ℕ, zero, suc, ◌+◌, ◌-◌, ◌*◌, ◌/◌, ◌%◌, ◌<◌, ◌≤◌}
 use native.Mathlib.Nat.{not-suc-le-zero}
 use native.Mathlib.Numerals.{add-one}
 use native.Mathlib.Omega.{arith}
 use lib.IntN.{ℤ}
-use lib.ListN.{length, set}
-use lib.Seq.{sets}
+use lib.ListN.{length, set, length-set}
+use lib.Seq.{sets, set-append_left}
 use Rattle.registers.specs.Register.{register_at, registers_from}
 
 -- a register is sent as two bytes
@@ -37,3 +37,10 @@ module _ (t : List ℤ) (buffer : List ℕ) (start quantity i : ℕ) where
       let next : start + (i + 1) ≡ start + i + 1 = omega arith in
       let left : quantity - (i + 1) ≡ quantity - i - 1 = omega arith in
       rw (at, next, left) (sym (one-register t buffer (3 + 2 * i) (start + i) (quantity - i) w (omega arith) e))
+
+-- a run that fits in the front of a list leaves what stands behind the front
+pub sets-front : (xs ys : List ℕ) (i : ℕ) (vs : List ℕ) → i + length vs ≤ length xs → sets (xs ++ ys) i vs ≡ sets xs i vs ++ ys
+sets-front xs ys i [] h = refl
+sets-front xs ys i (v ∷ vs) h =
+    ap (λ (l : List ℕ). sets l (suc i) vs) (set-append_left xs ys i v (omega arith))
+    ∙ sets-front (set xs i v) ys (suc i) vs (simp length-set (omega arith))

@@ -1,16 +1,11 @@
 -- The promise of a function that is lent a buffer for its reply.
 use Rattle.std.specs.Prelude.{ℕ, ◌≤◌, ◌≡◌, List, ℤ, length, Result, Ok, Err}
 use Rattle.std.proofs.lemmas.List.Edits.{sets}
-use Rattle.numbers.specs.Numbers.{none, least_buffer}
+use Rattle.numbers.specs.Numbers.{none}
 use Rattle.numbers.specs.declared.Refusal.{Refusal}
 use Rattle.numbers.specs.Refusals.{number_of}
 use Rattle.modbus.specs.declared.Answered.{Answered}
-use Rattle.modbus.specs.Outcome.{Outcome, head_length, exception}
-
--- what `respond` has made sure of before it obeys: every reply has room in the buffer, and the message has its head
-pub record Ready (buffer body : List ℕ) : Type 0 where
-  pub room : least_buffer ≤ length buffer
-  pub head : head_length ≤ length body
+use Rattle.modbus.specs.Outcome.{Outcome, exception}
 
 -- it gives back this number and the reply's length; the reply stands at the buffer's front, and the bytes past it stay
 pub record Sends (number : ℕ) (reply : List ℕ) (r : Answered) (before after : List ℕ) : Type 0 where

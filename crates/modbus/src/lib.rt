@@ -3,13 +3,13 @@
 
 ghost use Rattle.std.specs.Prelude.{◌≡◌, List, ◌+◌, ◌*◌, ◌≤◌, ◌<◌, ℤ, length};
 ghost use Rattle.std.proofs.lemmas.List.Edits.{sets};
-ghost use Rattle.numbers.specs.Numbers.{none, least_buffer};
+ghost use Rattle.numbers.specs.Numbers.{none};
 ghost use Rattle.numbers.specs.Refusals.{number_of};
 ghost use Rattle.registers.specs.Register.{registers_from};
 ghost use Rattle.registers.specs.Faults.{read_fault};
-ghost use Rattle.modbus.specs.Outcome.{top_bit_set, exception_reply};
+ghost use Rattle.modbus.specs.Outcome.{head_length, top_bit_set, exception_reply};
 ghost use Rattle.modbus.specs.Rules.{read_reply, reading, writing, writing_several, looping_back, obeying, ours, acted_within};
-ghost use Rattle.modbus.specs.Promise.{Ready, Sends, Gives, Puts, Serves};
+ghost use Rattle.modbus.specs.Promise.{Sends, Gives, Puts, Serves};
 
 use numbers::{LEAST_BUFFER, NONE, Refusal};
 use registers::COUNT_PLACE;
@@ -21,6 +21,9 @@ pub struct Answered {
     pub number: u8,
     pub len: usize,
 }
+
+// Where a reply is put: the front of a buffer, in which every reply has room.
+type Reply = [u8; LEAST_BUFFER];
 
 // The bytes at the front of every message: its address and its function.
 const HEAD_LENGTH: usize = 2;
@@ -44,8 +47,8 @@ fn top_bit_set(function: u8) -> u8
 }
 
 // The exception that goes with a number: 31, 32 and 33 are exceptions 1, 2 and 3.
-fn exception(reply: &mut [u8], body: &[u8], refusal: Refusal) -> Answered
-    requires { Ready reply.old body.now × (30 ≤ number_of refusal) }
+fn exception(reply: &mut Reply, body: &[u8], refusal: Refusal) -> Answered
+    requires { (head_length ≤ length body.now) × (30 ≤ number_of refusal) }
     ensures { Sends (number_of refusal) (exception_reply body.now (number_of refusal))
         result reply.old reply.new }
 {
@@ -57,7 +60,7 @@ fn exception(reply: &mut [u8], body: &[u8], refusal: Refusal) -> Answered
 }
 
 // The request again, or its front.
-fn echo(reply: &mut [u8], body: &[u8]) -> usize
+fn echo(reply: &mut Reply, body: &[u8]) -> usize
     requires { length body.now ≤ length reply.old }
     ensures { Puts body.now result reply.old reply.new }
 {
@@ -69,7 +72,7 @@ fn echo(reply: &mut [u8], body: &[u8]) -> usize
 
 // The registers, from the buffer's fourth byte on.
 // They go by their index, since the library's `chunks_exact_mut` promises nothing of what the buffer ends as.
-fn put_registers(table: &[i32], reply: &mut [u8], start: u16, quantity: u16)
+fn put_registers(table: &[i32], reply: &mut Reply, start: u16, quantity: u16)
     requires { (start + quantity < 0x10000) × (3 + 2 * quantity ≤ length reply.old) }
     ensures { reply.new
         ≡ sets reply.old 3 (registers_from table.now start quantity) }
@@ -83,8 +86,8 @@ fn put_registers(table: &[i32], reply: &mut [u8], start: u16, quantity: u16)
 }
 
 // The reply to a request to read that meets no fault.
-fn send_registers(table: &[i32], reply: &mut [u8], body: &[u8]) -> usize
-    requires { (least_buffer ≤ length reply.old) × (read_fault body.now ≡ none) }
+fn send_registers(table: &[i32], reply: &mut Reply, body: &[u8]) -> usize
+    requires { read_fault body.now ≡ none }
     ensures { Puts (read_reply table.now body.now)
         result reply.old reply.new }
 {
@@ -98,8 +101,7 @@ fn send_registers(table: &[i32], reply: &mut [u8], body: &[u8]) -> usize
 }
 
 // Registers are read.
-fn read(table: &[i32], reply: &mut [u8], body: &[u8]) -> Result<usize, Refusal>
-    requires { least_buffer ≤ length reply.old }
+fn read(table: &[i32], reply: &mut Reply, body: &[u8]) -> Result<usize, Refusal>
     ensures { Serves (reading table.now body.now) body.now
         result reply.old reply.new table.now }
 {
@@ -110,8 +112,7 @@ fn read(table: &[i32], reply: &mut [u8], body: &[u8]) -> Result<usize, Refusal>
 // ---- 06H: a register and a value
 
 // A register is written.
-fn write(table: &mut [i32], reply: &mut [u8], body: &[u8]) -> Result<usize, Refusal>
-    requires { least_buffer ≤ length reply.old }
+fn write(table: &mut [i32], reply: &mut Reply, body: &[u8]) -> Result<usize, Refusal>
     ensures { Serves (writing table.old body.now) body.now
         result reply.old reply.new table.new }
 {
@@ -122,8 +123,7 @@ fn write(table: &mut [i32], reply: &mut [u8], body: &[u8]) -> Result<usize, Refu
 // ---- 08H: a test code and data
 
 // The request comes back.
-fn loop_back(reply: &mut [u8], body: &[u8]) -> Result<usize, Refusal>
-    requires { least_buffer ≤ length reply.old }
+fn loop_back(reply: &mut Reply, body: &[u8]) -> Result<usize, Refusal>
     ensures { (t : List ℤ) → Serves (looping_back t body.now) body.now
         result reply.old reply.new t }
 {
@@ -134,8 +134,7 @@ fn loop_back(reply: &mut [u8], body: &[u8]) -> Result<usize, Refusal>
 // ---- 10H: a register to start from, a quantity, a byte count, and the values of the registers
 
 // Several registers are written.
-fn write_several(table: &mut [i32], reply: &mut [u8], body: &[u8]) -> Result<usize, Refusal>
-    requires { least_buffer ≤ length reply.old }
+fn write_several(table: &mut [i32], reply: &mut Reply, body: &[u8]) -> Result<usize, Refusal>
     ensures { Serves (writing_several table.old body.now) body.now
         result reply.old reply.new table.new }
 {
@@ -146,8 +145,8 @@ fn write_several(table: &mut [i32], reply: &mut [u8], body: &[u8]) -> Result<usi
 // ---- any message
 
 // The function decides what is done.
-fn serve(table: &mut [i32], reply: &mut [u8], body: &[u8]) -> Result<usize, Refusal>
-    requires { Ready reply.old body.now }
+fn serve(table: &mut [i32], reply: &mut Reply, body: &[u8]) -> Result<usize, Refusal>
+    requires { head_length ≤ length body.now }
     ensures { Serves (obeying table.old body.now) body.now
         result reply.old reply.new table.new }
 {
@@ -161,8 +160,8 @@ fn serve(table: &mut [i32], reply: &mut [u8], body: &[u8]) -> Result<usize, Refu
 }
 
 // A message is served, or answered by the exception of its refusal.
-fn obey(table: &mut [i32], reply: &mut [u8], body: &[u8]) -> Answered
-    requires { Ready reply.old body.now }
+fn obey(table: &mut [i32], reply: &mut Reply, body: &[u8]) -> Answered
+    requires { head_length ≤ length body.now }
     ensures { Gives (obeying table.old body.now)
         result reply.old reply.new table.new }
 {
@@ -194,11 +193,11 @@ pub fn respond(table: &mut [i32], reply: &mut [u8], address: u8, body: &[u8]) ->
     ensures { Gives (acted_within table.old (length reply.old) address body.now)
         result reply.old reply.new table.new }
 {
-    if reply.len() < LEAST_BUFFER {
+    let Some(front) = reply.first_chunk_mut() else {
         return silent(Refusal::ShortBuffer);
-    }
+    };
     if ours(address, body) {
-        obey(table, reply, body)
+        obey(table, front, body)
     } else {
         silent(Refusal::OtherAddress)
     }

@@ -9,20 +9,20 @@ use Rattle.modbus.proofs.Stores.{length-registers}
 use Rattle.modbus.proofs.send_registers.Goals as goal
 
 pub bounds-body-0 : goal.bounds-body-0
-bounds-body-0 c = let q = read-accepted _ c.requires.1 in omega arith
+bounds-body-0 c = let q = read-accepted _ c.requires in omega arith
 
 pub bounds-body-1 : goal.bounds-body-1
-bounds-body-1 c = let q = read-accepted _ c.requires.1 in omega arith
+bounds-body-1 c = let q = read-accepted _ c.requires in omega arith
 
 pub overflow_mul-reply : goal.overflow_mul-reply
-overflow_mul-reply c = let q = read-accepted _ c.requires.1 in omega arith
+overflow_mul-reply c = let q = read-accepted _ c.requires in omega arith
 
 pub overflow_cast-reply : goal.overflow_cast-reply
-overflow_cast-reply c = let q = read-accepted _ c.requires.1 in omega arith
+overflow_cast-reply c = let q = read-accepted _ c.requires in omega arith
 
 pub put_registers-requires : goal.put_registers-requires
 put_registers-requires c =
-    let q = read-accepted _ c.requires.1 in
+    let q = read-accepted _ c.requires in
     (omega arith, simp length-set (omega arith))
 
 pub returns : goal.returns
