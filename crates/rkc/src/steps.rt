@@ -1,4 +1,7 @@
 // What an act does: a state, a number, and a reply; a block that is judged also stores. An idle call goes by the time.
+//
+// The buffer has room in each act: `byte_fault` has looked, behind the table, as 01 has it. Taken as an array there, its type would say so,
+// but an arm would be left for the buffer that is too short, which no call reaches.
 ghost use Rattle.std.specs.Prelude.{◌≡◌, ◌<◌, ◌≤◌, length};
 ghost use Rattle.numbers.specs.Numbers.{least_buffer};
 ghost use Rattle.items.specs.ItemList.{items, found};
