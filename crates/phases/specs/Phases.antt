@@ -1,5 +1,5 @@
--- The phases of the RKC link, and numbers that go with EOT: 41, 43 and 45 are given by the decision, 42 by rkc once it has looked
--- the identifier up. 44 and 46 stand there.
+-- The phases of the RKC link, and a number that goes with EOT: 42 is given by rkc, once it has looked the identifier up. 41, 43 and 45
+-- are those of the refusals that the decision names (numbers), 44 and 46 stand in rkc.
 use Rattle.std.specs.Prelude.{ℕ}
 
 abbrev pub rest : ℕ
@@ -37,18 +37,6 @@ bcc_due = 8
 abbrev pub answered : ℕ
 answered = 9
 
--- a byte that doesn't belong into a poll
-abbrev pub not_belonging : ℕ
-not_belonging = 41
-
 -- the identifier of a poll is unknown
 abbrev pub unknown_polled : ℕ
 unknown_polled = 42
-
--- a byte while waiting that is neither ACK, NAK, EOT nor printable
-abbrev pub not_awaited : ℕ
-not_awaited = 43
-
--- the list has no next item: an end and no fault
-abbrev pub list_ended : ℕ
-list_ended = 45

@@ -1,7 +1,7 @@
 // The RKC link: one received byte, one idle call. The state is taken in by value and handed back by each step.
 //
 // A byte call goes through these: byte_fault (the caller's faults), phases::decide (what the character asks for), and perform, the
-// only one that touches the table and the reply buffer. Each looks at no more than the phase uses, so that only a block has its
+// only one that changes the table and the reply buffer. Each looks at no more than the phase uses, so that only a block has its
 // kept characters cut at the count.
 #![tactic(auto)]
 
