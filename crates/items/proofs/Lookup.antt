@@ -1,16 +1,23 @@
--- Looking an item up: where a search of the list ends, and what the code's table of the map holds for each register.
+-- Looking an item up: where a search of the list ends, in the list and in the code's rows, and what the code's table of the map holds for
+-- each register.
 -- Assumes nothing.
-use Rattle.std.specs.Prelude.{Option, Some, None}
+use Rattle.std.specs.Prelude.{Option, Some, None, nat_lt, position, bytes_eq}
+use Rattle.std.specs.Bool.{then_some}
+use Rattle.std.specs.List.{position_or_len}
 use mathlib.Core.Path.{◌≡◌, refl, sym, ap, ◌∙◌}
-use mathlib.Core.Bool.{Bool, true, ◌&&◌, false, cond}
-use mathlib.Core.List.{List, [], ◌∷◌}
+use mathlib.Core.Bool.{Bool, true, ◌&&◌, false, cond, not, and-true}
+use mathlib.Core.List.{List, [], ◌∷◌, map}
 use Prim.Native.Nat.{ℕ, suc, ◌-◌, ◌<◌, ◌≤◌, ◌+◌, min}
+use native.Mathlib.Nat.{zero-add}
 use native.Mathlib.Omega.{arith}
-use borrow.Author.Tests.{eqb-true, leb-true, ltb-true, ltb-false, ne_eqb}
+use borrow.Author.Tests.{eqb-true, leb-true, lt-ltb, le-ltb, ltb-true, ltb-false, ne_eqb}
 use lib.Dec.{eqb, leb, ltb}
 use lib.ListN.{get_or, length}
 use Rattle.numbers.proofs.Tests.{both}
 use Rattle.items.specs.ItemList.{Item, items, listed, map_size, item_list, no_item, item_at, first_from, named, registered, found, found_by_register, place_found, place_of}
+use Rattle.items.specs.declared.Item as declared
+use Rattle.items.specs.declared.TheConstants.{LIST}
+use Rattle.items.specs.Rows.{row}
 use Rattle.items.proofs.Lists.{values, values-at, passes_at}
 
 -- the number of an item is one more than its place in the list
@@ -78,6 +85,46 @@ pub named-place : (i : ℕ) → i < items → place_found (found (item_at i).fir
 unfolding found
 named-place i h = eqb-true _ _ (passes_at (λ (k : ℕ). eqb (place_found (found (item_at k).first (item_at k).second)) k) items i refl h)
 
+-- ---- the same search, of the rows
+
+module _ (p : Item → Bool) (q : declared.Item → Bool) (same : (x : Item) → q (row x) ≡ p x) where
+  one-less : (k n : ℕ) → nat_lt (1 + k) (suc n) ≡ nat_lt k n
+  one-less k n = by (nat_lt k n) refl
+    where
+      by : (t : Bool) → nat_lt k n ≡ t → nat_lt (1 + k) (suc n) ≡ t
+      by true e = let h = ltb-true k n e in lt-ltb (1 + k) (suc n) (omega arith)
+      by false e = let h = ltb-false k n e in le-ltb (1 + k) (suc n) (omega arith)
+
+  -- in a list that starts at place i
+  found-from : List Item → ℕ → Option ℕ
+  found-from xs i = cond (nat_lt (position_or_len q (map row xs)) (length (map row xs))) (Some (i + position_or_len q (map row xs))) None
+
+  first : (xs : List Item) (i : ℕ) → found-from xs i ≡ first_from i p xs
+  unfolding found-from
+  first [] i = refl
+  first (x ∷ xs) i = by (first xs (suc i)) (q (row x)) refl
+    where
+      by : found-from xs (suc i) ≡ first_from (suc i) p xs → (t : Bool) → q (row x) ≡ t
+          → cond (nat_lt (cond (not t) (1 + position_or_len q (map row xs)) 0) (suc (length (map row xs))))
+          (Some (i + cond (not t) (1 + position_or_len q (map row xs)) 0)) None ≡ cond (p x) (Some i) (first_from (suc i) p xs)
+      by rest true e =
+          let z : i + 0 ≡ i = omega arith in
+          rw (sym (same x) ∙ e, lt-ltb 0 (suc (length (map row xs))) (omega arith), z)
+      by rest false e =
+          let z : i + (1 + position_or_len q (map row xs)) ≡ suc i + position_or_len q (map row xs) = omega arith in
+          rw (sym (same x) ∙ e, one-less (position_or_len q (map row xs)) (length (map row xs)), z) rest
+
+  first-place : (xs : List Item) → position q (map row xs) ≡ first_from 0 p xs
+  unfolding found-from
+  first-place xs = rw zero-add at (first xs 0)
+
+-- the first row with a name is that of the first item with it
+pub row_found : (a b : ℕ) → position (λ (x : declared.Item). bytes_eq x.name (a ∷ b ∷ [])) LIST ≡ found a b
+unfolding found
+row_found a b =
+    let same : (x : Item) → bytes_eq (row x).name (a ∷ b ∷ []) ≡ named a b x = λ x. rw (and-true (eqb x.second b)) in
+    first-place (named a b) (λ (x : declared.Item). bytes_eq x.name (a ∷ b ∷ [])) same item_list
+
 -- ---- the place of the item that has a register
 
 -- it is past the list at most, and there for every register past the map; and it tells what was found
@@ -105,6 +152,13 @@ module _ (r : ℕ) where
       by : (f : Option ℕ) → found_by_register r ≡ f → items ≤ place_found f → None ≡ f
       by (Some j) e h = absurd (omega (arith, (found-register r j e).0))
       by None e h = refl
+
+  pub told_by_place : then_some (ltb (place_of r) items) (place_of r) ≡ found_by_register r
+  told_by_place = by (ltb (place_of r) items) refl
+    where
+      by : (t : Bool) → ltb (place_of r) items ≡ t → then_some t (place_of r) ≡ found_by_register r
+      by true e = item-has (ltb-true (place_of r) items e)
+      by false e = none_has (ltb-false (place_of r) items e)
 
 -- each item is at the place of its register
 pub own-place : (i : ℕ) → i < items → place_of (item_at i).register ≡ i

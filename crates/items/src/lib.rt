@@ -138,6 +138,7 @@ fn place_named(items: &[Item], name: [u8; 2]) -> Option<usize>
 }
 
 // The place of the item that two characters name.
+#[tactic(auto, using(crate::proofs::Lookup::row_found))]
 pub fn find(a: u8, b: u8) -> Option<usize>
     ensures { result ≡ found a b }
 {
@@ -152,6 +153,7 @@ pub fn place_of(register: u16) -> usize
 }
 
 // The place of the item that has a register.
+#[tactic(auto, using(crate::proofs::Lookup::told_by_place))]
 pub fn find_register(register: u16) -> Option<usize>
     ensures { result ≡ found_by_register register }
 {
