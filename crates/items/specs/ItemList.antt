@@ -67,11 +67,11 @@ no_item = line 0 0 0 read 0 (pos 1) (pos 0) (pos 0)
 abbrev pub item_at : ℕ → Item
 item_at i = get_or item_list i no_item
 
--- the lines by which the code has the list: its own, and last the line that is no item
+-- the lines by which a column in the code has the list: its own, and last the line that is no item
 abbrev pub lines : List Item
 lines = item_list ++ (no_item ∷ [])
 
--- which of them is the line at a place: past the list the last one
+-- at which of them a column has what the list says at a place: past the list at the last one
 abbrev pub line_of : ℕ → ℕ
 line_of i = cond (ltb i items) i items
 

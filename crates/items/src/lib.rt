@@ -67,7 +67,7 @@ pub const START: [i32; LINES] = [
     LIST[7].start, LIST[8].start, LIST[9].start, LIST[10].start, LIST[11].start, LIST[12].start, NO_ITEM.start,
 ];
 
-// The place of a register that no item has: past the list, where each column has a line for it, so that nobody asks for one first.
+// The place of a register that no item has: past the list, where `NO_ITEM` stands, so that no write asks for an item first.
 const NOWHERE: u8 = ITEMS as u8;
 
 // The place of the item that has a register, for each register of the map, and last for those past it.

@@ -118,7 +118,7 @@ pub fn check(table: &[i32]) -> Result<(), Refusal>
 // ---- what is done with the table
 
 // Every item takes its start value; a table of another length is left as it is.
-#[tactic(auto, unfolding(crate::specs::Table::start_number, crate::specs::Table::start_table, crate::specs::Table::start_values))]
+#[tactic(auto, unfolding(crate::specs::Table::start_number, crate::specs::Table::start_table), using(crate::proofs::Turns::start_column))]
 pub fn start(table: &mut [i32]) -> Result<(), Refusal>
     ensures { Lent (start_number table.old) (start_table table.old) (number_given result) table.new }
 {
