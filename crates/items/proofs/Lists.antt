@@ -10,7 +10,7 @@ use native.Mathlib.Omega.{arith}
 use borrow.Author.Tests.{eqb-true, eqb-false, ltb-true, ltb-false}
 use lib.Dec.{eqb, ltb}
 use lib.ListN.{length, get_or, get_or-eq_default, get_or-map}
-use Rattle.numbers.proofs.Tests.{contrary, both}
+use Rattle.numbers.proofs.Tests.{contrary, both, chosen}
 use Rattle.items.specs.ItemList.{Item, items, map_size, item_list, no_item, item_at, lines, line_of, Sizes}
 
 -- what is read at a place inside a list does not depend on what stands past its end
@@ -37,6 +37,11 @@ writable-listed i w = by (ltb i items) refl
     by : (b : Bool) → ltb i items ≡ b → i < items
     by true e = ltb-true i items e
     by false e = contrary (sym w ∙ ap (λ (x : Item). x.writable) (line-past i (ltb-false i items e)))
+
+-- a place has a line
+pub line-within : (i : ℕ) → line_of i < length lines
+line-within i =
+    chosen (λ (k : ℕ). k < length lines) (ltb i items) (λ e. let h = ltb-true i items e in omega arith) (λ _. omega arith)
 
 -- a column has at a place inside the list, and right behind it, what the list says of the item there
 pub column-at : {A : Type 0} (f : Item → A) (i : ℕ) (d : A) → i ≤ items → get_or (map f lines) i d ≡ f (item_at i)

@@ -129,6 +129,14 @@ row_found a b =
 
 -- it is past the list at most, and there for every register past the map; and it tells what was found
 module _ (r : ℕ) where
+  pub place-small : place_of r ≤ items
+  unfolding place_of found_by_register
+  place-small = by (found_by_register r) refl
+    where
+      by : (f : Option ℕ) → found_by_register r ≡ f → place_found f ≤ items
+      by (Some j) e = let inside = (found-register r j e).0 in omega arith
+      by None e = omega arith
+
   pub place-past : map_size ≤ r → place_of r ≡ items
   unfolding place_of
   place-past h = ap place_found (nothing-past r h)

@@ -1,4 +1,5 @@
 pub mod Refusals
 pub mod Tests
 pub mod Order
+pub mod Powers
 pub mod Single

@@ -36,6 +36,9 @@ module _ (n next : ℕ) where
 -- ---- a number, and the list of those after it
 
 module _ (n : ℕ) (ns : List ℕ) where
+  pub this-met : (n ≡ none → ⊥) → first_met (n ∷ ns) ≡ n
+  this-met = this-first n (first_met ns)
+
   pub not-met : n ≡ none → first_met (n ∷ ns) ≡ first_met ns
   not-met = next-first n (first_met ns)
 

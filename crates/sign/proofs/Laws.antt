@@ -42,12 +42,25 @@ equal_of a b fa fb = by (eqb (of_z w32 a) (of_z w32 b)) (eq_z a b) refl refl
     by false true p q = absurd (eqb-false (of_z w32 a) (of_z w32 b) p (ap (of_z w32) (eq_z-true a b q)))
     by false false p q = p ∙ sym q
 
+-- what `less` and `size` ensure at a call, of the numbers that its arguments stand for
+pub less-of : (a b : ℤ) → mag a < 2 ^ 31 → mag b < 2 ^ 31 → {r : Bool} → r ≡ lt_z (to_z w32 (of_z w32 a)) (to_z w32 (of_z w32 b)) → r ≡ lt_z a b
+less-of a b fa fb e = e ∙ ap₂ lt_z (same a fa) (same b fb)
+
 pub size_of : (v : ℤ) → mag v < 2 ^ 31 → {n : ℕ} → n ≡ nat_abs (to_z w32 (of_z w32 v)) → n ≡ nat_abs v
 size_of v h e = e ∙ ap nat_abs (same v h)
 
 -- what `make` ensures, of a size that an i32 has
 pub make-of : (below : Bool) (n : ℕ) (r : ℤ) → n < 2 ^ 31 → r ≡ made below n → r ≡ signed below n
 make-of below n r h e = e ∙ rw (lt-ltb n (2 ^ 31) h)
+
+-- below zero, zero minus the number is its size; else the number is its size
+pub below-zero : (v : ℤ) → lt_z v (pos 0) ≡ true → pos 0 -ℤ v ≡ pos (nat_abs v)
+below-zero (pos n) t = let h = ltb-true n 0 t in absurd (not-suc-le-zero h)
+below-zero (negsuc n) t = ap pos (zero-add (suc n))
+
+pub not-below-zero : (v : ℤ) → lt_z v (pos 0) ≡ false → v ≡ pos (nat_abs v)
+not-below-zero (pos n) t = refl
+not-below-zero (negsuc n) t = contrary t
 
 -- a number is its sign and its size
 pub by_sign : (v : ℤ) → v ≡ signed (lt_z v (pos 0)) (nat_abs v)
@@ -60,3 +73,6 @@ module _ (v : ℤ) (f : SFits w32 v) where
 
   pub size_small : nat_abs v < 2 ^ 32
   size_small = let h = nat_abs-le v f.sfits in omega arith
+
+  pub widened : to_z w64 (of_z w64 (to_z w32 (of_z w32 v))) ≡ v
+  widened = ap (λ (z : ℤ). to_z w64 (of_z w64 z)) read_back ∙ to_z-of_z {w = w64} (sfits_widen tt f)
