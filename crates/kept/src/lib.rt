@@ -15,6 +15,15 @@ pub fn from_low(a: u8, b: u8, c: u8, d: u8) -> u32
     u32::from_le_bytes([a, b, c, d])
 }
 
+// The number that all of them make.
+fn number_of(kept: [u8; PLACES]) -> u64
+    ensures { result ≡ from_low kept }
+{
+    let low = from_low(kept[0], kept[1], kept[2], kept[3]);
+    let high = from_low(kept[4], kept[5], kept[6], kept[7]);
+    low as u64 + 0x1_0000_0000 * (high as u64)
+}
+
 // The first number that so many bytes have no room for.
 fn past_bytes(count: u8) -> u64
     requires { count < places }
@@ -31,7 +40,7 @@ pub fn up_to(kept: [u8; PLACES], count: u8) -> [u8; PLACES]
     if PLACES <= count as usize {
         return kept;
     }
-    (u64::from_le_bytes(kept) % past_bytes(count)).to_le_bytes()
+    (number_of(kept) % past_bytes(count)).to_le_bytes()
 }
 
 // One more character is kept in its place, if there is one left.
