@@ -26,7 +26,7 @@ fn fields(state: &[u8; STATE_BYTES]) -> Link
         bcc: state[3],
         mark: state[4] != 0,
         kept,
-        time: u32::from_le_bytes([state[8], state[9], state[10], state[11]]),
+        time: kept::from_low(state[8], state[9], state[10], state[11]),
     }
 }
 
