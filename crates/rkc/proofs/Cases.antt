@@ -1,12 +1,13 @@
 -- What the definitions of the steps give in each case, for the proofs of the functions that take that way.
 -- Assumes nothing.
-use Rattle.std.proofs.Common.{◌≡◌, ℕ, ◌+◌, ◌≤◌, Bool, true, false, leb, List, [], ◌∷◌, map, length, ℤ, sym, refl, ◌∙◌, subst, arith, eq-eqb, ne_eqb, le-leb, leb-true}
+use Rattle.std.proofs.Common.{◌≡◌, ℕ, ◌+◌, ◌<◌, ◌≤◌, Bool, true, false, leb, List, [], ◌∷◌, map, length, ℤ, sym, refl, ap, ◌∙◌, subst, arith, eq-eqb, ne_eqb, le-leb, leb-true}
 use mathlib.Core.Path.{subst⁻¹}
+use borrow.Author.Tests.{lt-leb}
 use Rattle.std.specs.Prelude.{Result, Ok, Err}
 use Rattle.numbers.specs.declared.Refusal.{Refusal}
 use Rattle.numbers.specs.Numbers.{none, unless, first_met, short_buffer, least_buffer, bad_setting}
 use Rattle.numbers.specs.Refusals.{number_of}
-use Rattle.numbers.proofs.Order.{not-met, none-at, last-met, test-held}
+use Rattle.numbers.proofs.Order.{this-first, not-met, none-at, last-met, test-held}
 use Rattle.numbers.proofs.Refusals.{refusal-met}
 use Rattle.table.specs.Table.{table_fault, xu_of, stored}
 use Rattle.line.specs.Line.{ACK, NAK, sent, heard}
@@ -33,6 +34,10 @@ steps-by {r = r} {b = b} {a = a} e h = subst⁻¹ (λ (s : Step). Steps s r b a)
 
 pub does-by : {o o' : Outcome} {r : Stepped} {b a : List ℕ} {t : List ℤ} → o ≡ o' → Does o' r b a t → Does o r b a t
 does-by {r = r} {b = b} {a = a} {t = t} e h = subst⁻¹ (λ (o : Outcome). Does o r b a t) e h
+
+-- what is performed for an equal act
+pub done-by : (l : Link) {x y : Act} (t : List ℤ) (structure time : ℕ) → x ≡ y → performed l t structure time x ≡ performed l t structure time y
+done-by l t structure time e = ap (performed l t structure time) e
 
 -- ---- an item's number text fits, or not
 
@@ -70,7 +75,23 @@ module _ (structure : ℕ) (t : List ℤ) (l : Link) (c : ℕ) {v : Verdict} (j 
 
 -- ---- the caller's faults
 
+module _ (l : Link) (room : ℕ) (settings : Bool) where
+  pub step-short : room < least_buffer → step_fault l room settings ≡ short_buffer
+  unfolding step_fault
+  step-short h = simp (lt-leb least_buffer room h)
+
+  pub step-setting : least_buffer ≤ room → settings ≡ false → step_fault l room settings ≡ bad_setting
+  unfolding step_fault
+  step-setting h s = simp (le-leb least_buffer room h, s)
+
+  pub step-outside : least_buffer ≤ room → settings ≡ true → in_limits l ≡ false → step_fault l room settings ≡ bad_state
+  unfolding step_fault
+  step-outside h s e = simp (le-leb least_buffer room h, s, e)
+
 module _ (t : List ℤ) (step : ℕ) {f : ℕ} (e : f ≡ table_fault t) where
+  pub table-first : (f ≡ none → ⊥) → first_met (table_fault t ∷ step ∷ []) ≡ f
+  table-first n = rw (← e) (this-first f (first_met (step ∷ [])) n)
+
   pub step-next : f ≡ none → first_met (table_fault t ∷ step ∷ []) ≡ step
   step-next z = rw (← e) (not-met f (step ∷ []) z ∙ last-met step)
 
