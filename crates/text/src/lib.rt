@@ -44,11 +44,17 @@ impl Decimals {
         })
     }
 
-    // How many digits there is room for beside the minus and the point.
-    fn room(self, minus: bool) -> usize
-        ensures { result ≡ room width self.count minus }
+    // The least size that has no room beside the minus and the point: ten to the places that are left. Each of the four is a
+    // constant, where one power at a place that is worked out would be read from the table at run time.
+    fn limit(self, minus: bool) -> u32
+        ensures { result ≡ 10 ^ room width self.count minus }
     {
-        WIDTH - usize::from(minus) - usize::from(0 < self.count)
+        match (self.count, minus) {
+            (0, true) => power(WIDTH - 1),
+            (0, false) => power(WIDTH),
+            (_, true) => power(WIDTH - 2),
+            (_, false) => power(WIDTH - 1),
+        }
     }
 }
 
@@ -154,11 +160,11 @@ fn layout(minus: bool, decimals: Decimals, size: u32) -> [u8; WIDTH]
 pub fn write(decimals: u8, value: i32) -> Result<[u8; WIDTH], Refusal>
     ensures { written_as width result ≡ written width decimals value }
 {
-    let decimals = Decimals::new(decimals)?;
-    let minus = value < 0;
-    let size = value.unsigned_abs();
-    if size >= power(decimals.room(minus)) {
+    let checked = Decimals::new(decimals)?;
+    let minus = sign::less(value, 0);
+    let size = sign::size(value);
+    if size >= checked.limit(minus) {
         return Err(Refusal::DoesNotFit);
     }
-    Ok(layout(minus, decimals, size))
+    Ok(layout(minus, checked, size))
 }
