@@ -2,8 +2,9 @@
 // document 01's.
 #![tactic(auto)]
 
-ghost use Rattle.std.specs.Prelude.{◌≡◌, false, ◌+◌, ◌-◌, ◌<◌, ◌≤◌, ◌^◌, length, MatchResult};
+ghost use Rattle.std.specs.Prelude.{◌≡◌, false, ◌+◌, ◌-◌, ◌/◌, ◌<◌, ◌≤◌, ◌^◌, length, MatchResult};
 ghost use Rattle.numbers.specs.declared.Refusal.TheVariants.{TooManyDecimals};
+ghost use Rattle.sign.specs.Sign.{made};
 ghost use Rattle.text.specs.Numbers.{width, most_decimals};
 ghost use Rattle.text.specs.Reading.{digits_from, of_parts, of_unsigned, point_at, ReadAs};
 ghost use Rattle.text.specs.Writing.{room, text_of, written, written_as};
@@ -73,8 +74,15 @@ fn digits_from(from: u32, chars: &[u8]) -> Option<u32>
     Some(n)
 }
 
-// What the characters before and after the point say. The quotient cuts the fraction off, and the sign comes last, so that the cut is
-// toward zero.
+// A size over a power of ten. The quotient cuts the fraction off, and the sign comes last, so that the cut is toward zero.
+fn cut_off(minus: bool, size: u32, tens: u32) -> i32
+    requires { (size < 10 ^ (width + most_decimals)) × (0 < tens) × (tens ≤ 10 ^ width) }
+    ensures { result ≡ made minus (size / tens) }
+{
+    sign::make(minus, size / tens)
+}
+
+// What the characters before and after the point say.
 #[tactic(auto, using(crate::proofs::Steps::no_whole, crate::proofs::Steps::no_fraction))]
 fn of_parts(minus: bool, decimals: Decimals, whole: &[u8], fraction: &[u8]) -> Result<i32, Refusal>
     requires { length whole.now + length fraction.now ≤ width }
@@ -86,7 +94,7 @@ fn of_parts(minus: bool, decimals: Decimals, whole: &[u8], fraction: &[u8]) -> R
         return Err(Refusal::NoNumber);
     }
     let size = n * power(decimals.count);
-    Ok(sign::make(minus, size / power(fraction.len())))
+    Ok(cut_off(minus, size, power(fraction.len())))
 }
 
 // How many characters stand before the first point, or in all where there is none.

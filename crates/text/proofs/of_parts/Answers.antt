@@ -1,6 +1,6 @@
 -- The two runs of digits are one number of at most `width` digits, so its product and its quotient are those of the definition.
 use Rattle.std.proofs.Common.{rules, ◌≡◌, ℕ, ◌+◌, ◌-◌, ◌*◌, ◌/◌, ◌^◌, ◌<◌, ◌≤◌, List, length, ap, ◌∙◌, arith, Some, Ok}
-use native.Mathlib.Nat.{one-le-pow}
+use native.Mathlib.Nat.{one-le-pow, pow-le-pow_right}
 use Rattle.sign.proofs.Laws.{make-of, same}
 use Rattle.text.specs.Numbers.{width}
 use Rattle.text.specs.Reading.{digits_from}
@@ -33,8 +33,19 @@ overflow_mul-size c =
     let small = below s.whole.now s.fraction.now c.in_ok-front.front c.in_ok-n.n c.requires front n in
     rw c.power.ensures (omega (arith, scaled width c.in_ok-n.n s.decimals.count small s.decimals.few))
 
-pub nonzero_div-size : goal.nonzero_div-size
-nonzero_div-size c = rw c.power-2.ensures (one-le-pow (length c.args.fraction.now) 10 (omega arith))
+pub cut_off-requires : goal.cut_off-requires
+cut_off-requires c =
+    let s = c.args in
+    let front : digits_from 0 s.whole.now ≡ Some c.in_ok-front.front = grind arith in
+    let n : digits_from c.in_ok-front.front s.fraction.now ≡ Some c.in_ok-n.n = grind arith in
+    let small = below s.whole.now s.fraction.now c.in_ok-front.front c.in_ok-n.n c.requires front n in
+    let places = length s.fraction.now in
+    let most : places ≤ width = omega (arith, c.requires) in
+    rw (c.power.ensures, c.power-2.ensures) (
+      scaled width c.in_ok-n.n s.decimals.count small s.decimals.few,
+      one-le-pow places 10 (omega arith),
+      pow-le-pow_right {n = 10} (omega arith) most,
+    )
 
 pub returns : goal.returns
 returns c =
@@ -44,8 +55,8 @@ returns c =
     let small = below s.whole.now s.fraction.now c.in_ok-front.front c.in_ok-n.n c.requires front n in
     let tens = 10 ^ length s.fraction.now in
     let size = sized width c.in_ok-n.n s.decimals.count tens small s.decimals.few in
-    let made = rw (c.power.ensures, c.power-2.ensures) at c.make.ensures in
-    let value = make-of s.minus (c.in_ok-n.n * 10 ^ s.decimals.count / tens) c.make.result (omega arith) made in
-    ap Ok (same c.make.result c.make.type_inv ∙ value)
+    let cut = rw (c.power.ensures, c.power-2.ensures) at c.cut_off.ensures in
+    let value = make-of s.minus (c.in_ok-n.n * 10 ^ s.decimals.count / tens) c.cut_off.result (omega arith) cut in
+    ap Ok (same c.cut_off.result c.cut_off.type_inv ∙ value)
     ∙ digits-say s.minus s.decimals.count s.whole.now s.fraction.now c.in_ok-front.front c.in_ok-n.n front n
     (search rules)
