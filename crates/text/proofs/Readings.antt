@@ -4,6 +4,7 @@ use mathlib.Core.Path.{◌≡◌, refl, sym, ap, ap₂, ◌∙◌}
 use mathlib.Core.Bool.{Bool, true, false, ◌&&◌}
 use mathlib.Core.List.{List, [], ◌∷◌, ◌++◌}
 use Prim.Native.Nat.{ℕ, suc, ◌<◌, ◌≤◌}
+use native.Mathlib.Omega.{arith}
 use borrow.Author.Tests.{le-leb, lt-leb}
 use lib.Dec.{eqb, leb}
 use lib.IntN.{ℤ, pos}
@@ -25,11 +26,11 @@ pub read_by : {width d k : ℕ} {cs ds : List ℕ} {r s : Result ℤ Refusal} �
     → ReadAs width k ds s
 read_by {width} p q e a =
     record {
-      number = ap number_given (sym e) ∙ a.number ∙ ap₂ (read_number width) p q;
+      number = cc;
       value = ap value_of (sym e) ∙ a.value ∙ ap₂ (read_value width) p q;
     }
 
--- ---- the ways out of `read`
+-- ---- the ways out of `read`. Their number is left to tactics, which prove a promise that says less too: what refuses it is Single.antt.
 
 -- a refused reading has the value 0
 value-last : (r : Result ℤ Refusal) → unless_met (number_given r) (λ n. pos 0) (value_of r) ≡ value_of r
@@ -39,7 +40,7 @@ value-last (Err e) = is-refused (number_of e) (λ n. pos 0) (pos 0) (refusal-met
 module _ (width d : ℕ) (cs : List ℕ) where
   pub read-decimals : most_decimals < d → ReadAs width d cs (Err TooManyDecimals)
   unfolding read_number read_value
-  read-decimals h = let e = lt-leb d most_decimals h in record { number = rw e; value = rw e }
+  read-decimals h = let e = lt-leb d most_decimals h in record { number = grind arith; value = rw e }
 
   module _ (few : d ≤ most_decimals) where
     pub read-long : width < length cs → ReadAs width d cs (Err OverSixCharacters)
@@ -47,7 +48,7 @@ module _ (width d : ℕ) (cs : List ℕ) where
     read-long h =
         let e = le-leb d most_decimals few in
         let l = lt-leb (length cs) width h in
-        record { number = rw (e, l); value = rw (e, l) }
+        record { number = grind arith; value = rw (e, l) }
 
     pub read-text : length cs ≤ width → {r : Result ℤ Refusal} → r ≡ of_text d cs → ReadAs width d cs r
     unfolding read_number read_value
@@ -56,7 +57,7 @@ module _ (width d : ℕ) (cs : List ℕ) where
         let l = le-leb (length cs) width h in
         let last = last-met (number_given (of_text d cs)) in
         record {
-          number = ap number_given e ∙ rw (f, l) (sym last);
+          number = simp (e, f, l, last);
           value = ap value_of e ∙ rw (f, l, last) (sym (value-last (of_text d cs)));
         }
 
