@@ -7,12 +7,12 @@ use Rattle.std.specs.Option.{is_some, unwrap_or}
 use Rattle.std.specs.Result.{result_unwrap_or}
 use mathlib.Core.Path.{◌≡◌, refl, sym, ap, ◌∙◌}
 use mathlib.Core.Bool.{cond}
-use mathlib.Core.List.{List, ◌++◌}
+use mathlib.Core.List.{List, [], ◌∷◌, ◌++◌}
 use Prim.Native.Nat.{ℕ, ◌+◌, ◌≤◌}
 use native.Mathlib.Omega.{arith}
 use borrow.Author.Tests.{le-leb}
 use lib.IntN.{ℤ, pos}
-use lib.ListN.{length, drop, replicate}
+use lib.ListN.{length, get_or, drop}
 use lib.Seq.{sets-eq}
 use Rattle.numbers.specs.declared.Refusal.{Refusal}
 use Rattle.numbers.specs.Refusals.{number_given}
@@ -34,19 +34,32 @@ pub text-given : (r : Result (List ℕ) Refusal) {w : Written} → written_as wi
 text-given (Ok cs) e = ap (λ (w : Written). w.number) e
 text-given (Err x) e = ap (λ (w : Written). w.number) e
 
-pub text-chars : (r : Result (List ℕ) Refusal) {w : Written} → written_as width r ≡ w → result_unwrap_or r (replicate width 0) ≡ w.chars
-text-chars (Ok cs) e = ap (λ (w : Written). w.chars) e
-text-chars (Err x) e = ap (λ (w : Written). w.chars) e
+-- what stands at each of six places
+abbrev pub in-places : List ℕ → List ℕ
+in-places cs = get_or cs 0 0 ∷ get_or cs 1 0 ∷ get_or cs 2 0 ∷ get_or cs 3 0 ∷ get_or cs 4 0 ∷ get_or cs 5 0 ∷ []
+
+-- of six characters it is all
+six-places : (cs : List ℕ) → length cs ≡ width → in-places cs ≡ cs
+six-places [] h = absurd (omega arith)
+six-places (a ∷ []) h = absurd (omega arith)
+six-places (a ∷ b ∷ []) h = absurd (omega arith)
+six-places (a ∷ b ∷ c ∷ []) h = absurd (omega arith)
+six-places (a ∷ b ∷ c ∷ d ∷ []) h = absurd (omega arith)
+six-places (a ∷ b ∷ c ∷ d ∷ e ∷ []) h = absurd (omega arith)
+six-places (a ∷ b ∷ c ∷ d ∷ e ∷ f ∷ []) h = refl
+six-places (a ∷ b ∷ c ∷ d ∷ e ∷ f ∷ g ∷ cs) h = absurd (omega arith)
 
 module _ (d : ℕ) (v : ℤ) (cs : List ℕ) (room : width ≤ length cs) where
   -- with room for it the number is that of the writing
   pub number-with-room : text_number d v cs ≡ (written width d v).number
   number-with-room = rw (le-leb width (length cs) room) (last-met (written width d v).number)
 
-  -- and its characters stand at the front
-  pub left-with-room : (six : List ℕ) → length six ≡ width → six ≡ (written width d v).chars → six ++ drop width cs ≡ text_left d v cs
-  left-with-room six long e =
-      rw (le-leb width (length cs) room, ← e) (sym (rw long at (sets-eq six cs 0 (omega arith))))
+  -- and its characters stand at the front, each at its place
+  pub left-with-room : {front six : List ℕ} → front ≡ six → length six ≡ width → (chars : List ℕ) → length chars ≡ width
+      → in-places six ≡ in-places chars → chars ≡ (written width d v).chars → front ++ drop width cs ≡ text_left d v cs
+  left-with-room {six} put long chars whole places e =
+      let same : six ≡ (written width d v).chars = sym (six-places six long) ∙ places ∙ six-places chars whole ∙ e in
+      rw (put, le-leb width (length cs) room, ← same) (sym (rw long at (sets-eq six cs 0 (omega arith))))
 
 -- ---- a frame that is looked up
 

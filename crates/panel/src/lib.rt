@@ -145,7 +145,7 @@ pub fn vb_read_text(decimals: u8, chars: &[u8], value: &mut i32) -> u32
         (read_value width decimals chars.now) result value.new }
 {
     let read = text::read(decimals, chars);
-    *value = read.unwrap_or(0);
+    *value = text::value_of(read);
     u32::from(number_if(read.err()))
 }
 
@@ -158,7 +158,7 @@ pub fn vb_write_text(decimals: u8, value: i32, chars: &mut [u8]) -> u32
         return u32::from(Refusal::ShortBuffer.number());
     }
     let written = text::write(decimals, value);
-    let six = written.unwrap_or([0; text::WIDTH]);
+    let six = text::characters_of(written);
     chars[..text::WIDTH].copy_from_slice(&six);
     u32::from(number_if(written.err()))
 }

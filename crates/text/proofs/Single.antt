@@ -19,3 +19,9 @@ read =
 
 pub write : OneOutcome contract.write.ended text.write.Reads.Asked text.write.Reads.Post
 write = record { asks_nothing = λ κs a. tt; single = λ κs a o u p q. same-written width o.0 u.0 (single p q) & refl }
+
+pub value_of : OneOutcome contract.value_of.ended text.value_of.Reads.Asked text.value_of.Reads.Post
+value_of = record { asks_nothing = λ κs a. tt; single = λ κs a o u p q. single p q & refl }
+
+pub characters_of : OneOutcome contract.characters_of.ended text.characters_of.Reads.Asked text.characters_of.Reads.Post
+characters_of = record { asks_nothing = λ κs a. tt; single = λ κs a o u p q. single p q & refl }

@@ -5,7 +5,7 @@
 ghost use Rattle.std.specs.Prelude.{◌≡◌, false, ◌+◌, ◌-◌, ◌/◌, ◌<◌, ◌≤◌, ◌^◌, length, MatchResult};
 ghost use Rattle.numbers.specs.declared.Refusal.TheVariants.{TooManyDecimals};
 ghost use Rattle.sign.specs.Sign.{made};
-ghost use Rattle.text.specs.Numbers.{width, most_decimals};
+ghost use Rattle.text.specs.Numbers.{width, most_decimals, value_of};
 ghost use Rattle.text.specs.Reading.{digits_from, of_parts, of_unsigned, point_at, ReadAs};
 ghost use Rattle.text.specs.Writing.{room, text_of, written, written_as};
 
@@ -129,6 +129,13 @@ pub fn read(decimals: u8, chars: &[u8]) -> Result<i32, Refusal>
     of_unsigned(minus, decimals, digits)
 }
 
+// The value of a reading, 0 where it was refused.
+pub fn value_of(reading: Result<i32, Refusal>) -> i32
+    ensures { result ≡ value_of reading }
+{
+    reading.unwrap_or(0)
+}
+
 // The digits of a size with the point and no sign, in every place. d0 is its last digit, d1 the one before, and so on. The four texts
 // stand here as they are read, and a loop would have to find the point's place.
 fn places(decimals: Decimals, size: u32) -> [u8; WIDTH]
@@ -175,4 +182,11 @@ pub fn write(decimals: u8, value: i32) -> Result<[u8; WIDTH], Refusal>
         return Err(Refusal::DoesNotFit);
     }
     Ok(layout(minus, checked, size))
+}
+
+// The characters of a writing, zero bytes where it was refused.
+pub fn characters_of(written: Result<[u8; WIDTH], Refusal>) -> [u8; WIDTH]
+    ensures { result ≡ (written_as width written).chars }
+{
+    written.unwrap_or([0; WIDTH])
 }
