@@ -47,7 +47,10 @@ pub fn judge(
     if MOST_KEPT < end {
         return Err(Refusal::OverSixCharacters);
     }
-    let value = text::read(items::decimals(xu, place), &kept[IDENTIFIER_LENGTH..end])?;
+    let reading = text::read(items::decimals(xu, place), &kept[IDENTIFIER_LENGTH..end]);
+    let Ok(value) = reading else {
+        return Err(reading.unwrap_err());
+    };
     if !items::writable(place) {
         return Err(Refusal::ReadOnly);
     }

@@ -5,10 +5,10 @@ use Rattle.block.proofs.judge.Goals as goal
 
 pub returns-then-not-in_range : goal.returns-then-not-in_range
 returns-then-not-in_range c =
-    let value : to_z w32 (of_z w32 c.in_ok-value.value) ≡ c.in_ok-value.value = search rules in
+    let value : to_z w32 (of_z w32 c.in-Ok.value) ≡ c.in-Ok.value = search rules in
     search (rules, out)
 
 pub returns : goal.returns
 returns c =
-    let value : to_z w32 (of_z w32 c.in_ok-value.value) ≡ c.in_ok-value.value = search rules in
+    let value : to_z w32 (of_z w32 c.in-Ok.value) ≡ c.in-Ok.value = search rules in
     search (rules, set)
