@@ -1,7 +1,7 @@
 -- `vb_rtu` keeps the promise of `rtu::frame`, and `vb_ascii` that of `ascii::line`, of the answer that its result holds. So the
 -- demands that the library meets hold of both as they stand.
 -- Assumes nothing.
-use mathlib.Core.Path.{◌≡◌, ap₂, subst}
+use mathlib.Core.Path.{◌≡◌, ap₂}
 use mathlib.Core.List.{List}
 use Prim.Native.Nat.{ℕ, ◌/◌, ◌%◌, ◌≤◌, ◌<◌}
 use native.Mathlib.Omega.{arith}

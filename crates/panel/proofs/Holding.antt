@@ -1,6 +1,6 @@
 -- From what a step of the link promises to what its call promises: its result can be held, and once held it is the call's.
 -- Assumes nothing.
-use mathlib.Core.Path.{◌≡◌, subst, ◌∙◌}
+use mathlib.Core.Path.{◌≡◌, subst}
 use mathlib.Core.Bool.{false}
 use mathlib.Core.List.{List}
 use Prim.Native.Nat.{ℕ, ◌≤◌}
@@ -10,11 +10,11 @@ use lib.ListN.{length}
 use Rattle.rkc.specs.declared.Link.{Link}
 use Rattle.rkc.specs.declared.Stepped.{Stepped}
 use Rattle.rkc.specs.Outcome.{Step, ByteCall, received, IdleCall, idled}
-use Rattle.rkc.specs.Promise.{Steps, Leads, Idles}
+use Rattle.rkc.specs.Promise.{Leads, Idles}
 use Rattle.demands.proofs.EachReply.{received-short, idled-short}
 use Rattle.state.specs.State.{state_bytes, unpacked}
 use Rattle.panel.specs.Calls.{is_call_fault}
-use Rattle.panel.specs.Promise.{longest_reply, Holdable, Held, StepLeft, ByteLeft}
+use Rattle.panel.specs.Promise.{longest_reply, Holdable}
 use Rattle.panel.proofs.Faults.{received-whole, idled-whole}
 
 holdable : (s : List ℕ) (step : Step) (r : Stepped) → length step.reply ≤ 11
