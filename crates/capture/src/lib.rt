@@ -2,7 +2,7 @@
 // function takes bytes of any length: past the end of a capture a byte counts as 0, and a difference below zero is 0.
 #![tactic(auto)]
 
-ghost use Rattle.std.specs.Prelude.{◌≡◌, ◌+◌, ◌≤◌, ◌<◌, length, take};
+ghost use Rattle.std.specs.Prelude.{◌≡◌, ◌+◌, ◌≤◌, ◌<◌, Some, None, cond, length, take};
 ghost use Rattle.std.specs.Iterator.{at_most};
 ghost use Rattle.numbers.specs.Numbers.{none};
 ghost use Rattle.numbers.specs.Refusals.{number_given};
@@ -62,13 +62,24 @@ pub fn begins(capture: &[u8], end: usize) -> usize
     end.saturating_sub(size(capture, end) + SIZE_BYTES)
 }
 
-// Whether a record ends there: three tests in one, with no branch.
-#[tactic(auto, using(crate::proofs::Parts::size_small), unfolding(crate::specs::Format::record_ends))]
+// The same where a record ends there, which is three tests in one, with no branch. The size is looked up once for both.
+#[tactic(auto, using(crate::proofs::Parts::size_small), unfolding(crate::specs::Format::begins, crate::specs::Format::record_ends))]
+fn record_before(capture: &[u8], end: usize) -> Option<usize>
+    ensures { result ≡ cond (record_ends capture.now end) (Some (begins capture.now end)) None }
+{
+    let size = size(capture, end);
+    if (1 <= size) & (size <= LONGEST_FRAME) & (size + SIZE_BYTES <= end) {
+        Some(end - (size + SIZE_BYTES))
+    } else {
+        None
+    }
+}
+
+// Whether a record ends there.
 pub fn record_ends(capture: &[u8], end: usize) -> bool
     ensures { result ≡ record_ends capture.now end }
 {
-    let size = size(capture, end);
-    (1 <= size) & (size <= LONGEST_FRAME) & (size + SIZE_BYTES <= end)
+    record_before(capture, end).is_some()
 }
 
 // The frame of the record that ends in front of a place: it begins where the record does, or where the capture ends before that.
@@ -125,11 +136,8 @@ impl<'a> Iterator for Back<'a> {
 
     #[tactic(auto, using(crate::proofs::Walk::nearer))]
     fn next(&mut self) -> Option<usize> {
-        if !record_ends(self.capture, self.end) {
-            return None;
-        }
         let end = self.end;
-        self.end = begins(self.capture, end);
+        self.end = record_before(self.capture, end)?;
         Some(end)
     }
 }
