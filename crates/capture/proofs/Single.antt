@@ -1,6 +1,7 @@
--- Each public function of this crate promises one outcome, and one that gives back a part of the capture one part.
+-- Each public function of this crate promises one outcome, and so does each step of a walk back; one that gives back a part of the
+-- capture promises one part.
 -- Assumes nothing.
-use Rattle.std.specs.Prelude.{Result, Ok, Err}
+use Rattle.std.specs.Prelude.{Option, Result, Ok, Err}
 use mathlib.Core.Path.{◌≡◌, refl, sym, ap}
 use mathlib.Core.List.{List}
 use Prim.Native.Nat.{ℕ}
@@ -8,7 +9,9 @@ use Rattle.numbers.specs.declared.Refusal.{Refusal}
 use Rattle.numbers.specs.Promise.{OneOutcome, OnePart}
 use Rattle.numbers.proofs.Refusals.{same-refusal, same-given, refusal-met}
 use Rattle.numbers.proofs.Single.{single, ◌&◌}
+use Rattle.capture.specs.declared.Back.{Back}
 use Rattle.capture.specs.declared.Stretch.{Stretch}
+use Rattle.capture.specs.Back.{Steps}
 use Rattle.capture.specs.Show.{Shown, shown_as, Shows}
 use Rattle.capture.proofs as capture
 use Rattle.capture.specs.contracts as contract
@@ -30,6 +33,19 @@ trailer-right = record { asks_nothing = λ κs a. tt; single = λ κs a o u p q.
 
 pub fault : OneOutcome contract.fault.ended capture.fault.Reads.Asked capture.fault.Reads.Post
 fault = record { asks_nothing = λ κs a. tt; single = λ κs a o u p q. same-given (single p q) & refl }
+
+-- two steps of one walk
+pub step-single : {walk left other : Back} {given gave : Option ℕ} → Steps walk given left → Steps walk gave other
+    → (given ≡ gave) × (left ≡ other)
+step-single p q =
+    (single p.place q.place, λ i. record { capture = single p.same q.same i; end = single p.further q.further i })
+
+pub next : OneOutcome contract.BackIterator.next.ended capture.BackIterator.next.Reads.Asked capture.BackIterator.next.Reads.Post
+next =
+    record {
+      asks_nothing = λ κs a. tt;
+      single = λ κs a o u p q. let s = step-single p.0 q.0 in s.0 & (s.1 & refl);
+    }
 
 -- two answers that show one frame
 pub shown-single : {c : List ℕ} {frame : ℕ} {r s : Shown} → Shows c frame r → Shows c frame s → r ≡ s
