@@ -2,7 +2,6 @@
 -- Assumes nothing.
 use Rattle.std.proofs.Common.{◌≡◌, ℕ, suc, ◌+◌, ◌-◌, ◌*◌, ◌/◌, ◌%◌, ◌<◌, ◌≤◌, Bool, true, false, ◌&&◌, eqb, leb, List, [], ◌∷◌, length, get_or, take, drop, set, sym, refl, ap, ◌∙◌, subst, ap₂, add-one, arith, length-drop, length-take, drop-cons, ne_eqb, eqb-true, le-leb, leb-true}
 use borrow.Author.Tests.{lt-leb}
-use lib.Pointwise.{pointwise}
 use lib.Seq.{sets}
 use Rattle.numbers.proofs.Tests.{contrary, both}
 use Rattle.crc.proofs.Framed.{last-two}
@@ -73,14 +72,6 @@ module _ (characters bytes : List ℕ) (i : ℕ) where
 
 -- ---- CR and LF
 
-and_false : (b : Bool) → (b && false) ≡ false
-and_false true = refl
-and_false false = refl
-
-and_true : (b : Bool) → (b && true) ≡ b
-and_true true = refl
-and_true false = refl
-
 -- what is too short for both does not end in them: one character is not CR and LF at once
 pub too_short : (rest : List ℕ) → length rest < 2 → ends_in_cr_lf rest ≡ false
 unfolding ends_in_cr_lf
@@ -92,17 +83,11 @@ too_short (c ∷ []) h = by (eqb c CR) refl
     by false e = refl
 too_short (c ∷ d ∷ rest) h = absurd (omega arith)
 
--- what ends in the two
-pub suffix_ends : (rest : List ℕ) → pointwise eqb (drop (length rest - 2) rest) (CR ∷ LF ∷ []) ≡ ends_in_cr_lf rest
+-- the last two decide
+pub two_decide : (rest end : List ℕ) → 2 ≤ length rest → end ≡ drop (length rest - 2) rest
+    → (eqb (get_or end 0 0) CR && eqb (get_or end 1 0) LF) ≡ ends_in_cr_lf rest
 unfolding ends_in_cr_lf
-suffix_ends [] = sym (too_short [] (omega arith))
-suffix_ends (c ∷ []) = and_false (eqb c CR) ∙ sym (too_short (c ∷ []) (omega arith))
-suffix_ends (c ∷ d ∷ rest) = by (c ∷ d ∷ rest) (omega arith)
-  where
-    by : (rest : List ℕ) → 2 ≤ length rest → pointwise eqb (drop (length rest - 2) rest) (CR ∷ LF ∷ []) ≡ ends_in_cr_lf rest
-    by rest h =
-        ap (λ (xs : List ℕ). pointwise eqb xs (CR ∷ LF ∷ [])) (last-two rest h)
-        ∙ ap (λ (b : Bool). eqb (get_or rest (length rest - 2) 0) CR && b) (and_true (eqb (get_or rest (length rest - 1) 0) LF))
+two_decide rest end h e = rw (e, last-two rest h) refl
 
 pub long-enough : (rest : List ℕ) → ends_in_cr_lf rest ≡ true → 2 ≤ length rest
 long-enough [] e = absurd (contrary (sym e ∙ too_short [] (omega arith)))

@@ -111,7 +111,11 @@ fn take_characters(bytes: &mut [u8; LONGEST_FRAME], characters: &[u8]) -> Option
 fn take_rest(bytes: &mut [u8; LONGEST_FRAME], rest: &[u8]) -> Option<usize>
     ensures { Takes (bytes_behind rest.now) bytes.new (unwrap_or result 0) }
 {
-    let characters = rest.strip_suffix(&[CR, LF])?;
+    let (characters, end) = rest.split_last_chunk::<2>()?;
+    let right = (end[0] == CR) & (end[1] == LF);
+    if !right {
+        return None;
+    }
     take_characters(bytes, characters)
 }
 
