@@ -100,6 +100,12 @@ long-enough (c ∷ d ∷ rest) e = omega arith
 pub takes_none : {bytes : List ℕ} (after : List ℕ) → bytes ≡ [] → Takes bytes after 0
 takes_none after e = record { handed = ap length (sym e); stand = sym e }
 
+-- what is taken lies within the buffer
+pub takes-inside : {bytes after : List ℕ} {r : ℕ} → Takes bytes after r → r ≤ length after
+takes-inside {after = after} {r} t =
+    let short : length (take r after) ≤ length after = simp length-take (omega arith) in
+    omega (arith, t.handed, ap length t.stand)
+
 -- these bytes, by another name
 pub takes-by : {bytes others after : List ℕ} {r : ℕ} → bytes ≡ others → Takes bytes after r → Takes others after r
 takes-by {after = after} {r} e = subst (λ (bs : List ℕ). Takes bs after r) e
