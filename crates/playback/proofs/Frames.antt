@@ -1,7 +1,7 @@
 -- Frames handed over one at a time: the caller of each makes no fault, and each entry but the alarm states ends with the last value that
 -- a frame writes to its item.
 -- Assumes nothing.
-use Rattle.std.specs.Prelude.{Option, None, Result, Err}
+use Rattle.std.specs.Prelude.{Option, None}
 use mathlib.Core.Path.{◌≡◌, refl, sym, ap, ◌∙◌}
 use mathlib.Core.Bool.{Bool, true, false, ◌&&◌}
 use mathlib.Core.List.{List, [], ◌∷◌, ◌++◌}
@@ -12,10 +12,7 @@ use lib.Dec.{eqb}
 use lib.IntN.{ℤ}
 use lib.ListN.{length}
 use lib.Seq.{length-sets}
-use Rattle.numbers.specs.declared.Refusal.{Refusal}
 use Rattle.numbers.specs.Numbers.{none, least_buffer}
-use Rattle.numbers.specs.Refusals.{number_given}
-use Rattle.numbers.proofs.Refusals.{given-met}
 use Rattle.numbers.proofs.Tests.{both}
 use Rattle.items.specs.ItemList.{items, item_at}
 use Rattle.table.specs.Table.{entry, is_alarm_state, alarms_kept, good_table, table_fault, start_values}
@@ -48,10 +45,6 @@ module _ (address : ℕ) (frame : List ℕ) where
   pub by_message : frame_fault frame ≡ none → accepts_frame address frame ≡ accepts_write address (body_of frame)
   unfolding accepts_frame
   by_message right = rw (eq-eqb (frame_fault frame) none right)
-
-  pub not_accepted : (fault : Result Unit Refusal) (refusal : Refusal) → number_given fault ≡ frame_fault frame → fault ≡ Err refusal
-      → accepts_frame address frame ≡ false
-  not_accepted fault refusal e r = not-accepted (λ z. given-met r (e ∙ z))
 
   pub with_body : frame_fault frame ≡ none → 4 ≤ length frame
   with_body = frame-has-body frame
