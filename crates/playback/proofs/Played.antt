@@ -1,6 +1,7 @@
 -- The numbers of a playback one by one, and what keeps its promise.
 -- Assumes nothing.
-use mathlib.Core.Path.{◌≡◌, sym, ◌∙◌}
+use Rattle.std.specs.Prelude.{Result, Ok, Err}
+use mathlib.Core.Path.{◌≡◌, refl, sym, ◌∙◌}
 use mathlib.Core.Bool.{true, false}
 use mathlib.Core.List.{List}
 use Prim.Native.Nat.{ℕ}
@@ -12,8 +13,7 @@ use lib.ListN.{length, length-replicate}
 use Rattle.numbers.specs.declared.Refusal.{Refusal}
 use Rattle.numbers.specs.Numbers.{none, least_buffer, bad_setting}
 use Rattle.numbers.specs.Promise.{Lent}
-use Rattle.numbers.specs.Refusals.{number_of}
-use Rattle.numbers.proofs.Refusals.{refusal-met}
+use Rattle.numbers.specs.Refusals.{number_given}
 use Rattle.numbers.proofs.Order.{last-met, passed, is-refused, is-done}
 use Rattle.items.specs.ItemList.{items}
 use Rattle.table.specs.Table.{wrong_length, alarms_kept, start_values, start_number, start_table}
@@ -56,6 +56,11 @@ module _ (t : List ℤ) (address : ℕ) (c : List ℕ) where
 
 -- ---- the promise
 
+-- what is no refusal has no number
+pub not-refused : (fault : Result Unit Refusal) → ((refusal : Refusal) → fault ≡ Err refusal → ⊥) → number_given fault ≡ none
+not-refused (Ok u) h = refl
+not-refused (Err refusal) h = absurd (h refusal refl)
+
 -- a table of that length starts at the start values
 pub started : (t : List ℤ) → length t ≡ items → start_table t ≡ start_values
 unfolding start_table start_number
@@ -74,14 +79,13 @@ unfolding start_number
 start-fine t l = rw (eq-eqb (length t) items l)
 
 module _ (t : List ℤ) (address : ℕ) (c : List ℕ) where
-  pub not-played : (refusal : Refusal) → number_of refusal ≡ play_number t address c
-      → Lent (play_number t address c) (played t address c) (number_of refusal) t
+  pub not-played : {number : ℕ} → number ≡ play_number t address c → (number ≡ none → ⊥)
+      → Lent (play_number t address c) (played t address c) number t
   unfolding played
-  not-played refusal e =
+  not-played e h =
       record {
         given = e;
-        left =
-            sym (is-refused (play_number t address c) (λ n. t) (handed_over (at_start address) (frames c)).table (λ z. refusal-met refusal (e ∙ z)));
+        left = sym (is-refused (play_number t address c) (λ n. t) (handed_over (at_start address) (frames c)).table (λ z. h (e ∙ z)));
       }
 
   pub is-played : {settled left : List ℤ} → play_number t address c ≡ none → LastWrites address (frames c) start_values settled

@@ -123,7 +123,10 @@ pub fn play(table: &mut [i32], address: u8, capture: &[u8]) -> Result<(), Refusa
     ensures { Lent (play_number table.old address capture.now)
         (played table.old address capture.now) (number_given result) table.new }
 {
-    play_fault(&table[..], address, capture)?;
+    let fault = play_fault(&table[..], address, capture);
+    let Ok(()) = fault else {
+        return fault;
+    };
     table::start(table)?;
     write_over(table, &settle_all(address, capture));
     table::keep_alarms(table);
