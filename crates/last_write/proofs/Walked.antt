@@ -10,7 +10,7 @@ use Prim.Native.Nat.{ℕ, zero, suc, ◌+◌, ◌-◌, ◌≤◌, ◌<◌}
 use native.Mathlib.Numerals.{add-one}
 use native.Mathlib.Omega.{arith}
 use borrow.Author.Count.{below_more}
-use borrow.Author.Tests.{eqb-true, eq-eqb, lt-leb}
+use borrow.Author.Tests.{eq-eqb, ne_eqb, lt-leb}
 use lib.Dec.{eqb, leb}
 use lib.ListN.{length}
 use Rattle.numbers.specs.declared.Refusal.{Refusal}
@@ -244,18 +244,17 @@ module _ (q : Question) (c : List ℕ) where
           value (Some v) e = refl
           value None e = contrary (sym e)
 
-      -- where it stops it is at place 0 after all records, or it has met damage
-      module _ (g : given ≡ None) where
-        stays : further.end ≡ walk.end
-        stays = s.further ∙ rw (w.same, none-ends g)
+      -- where no record ends it has met damage, unless it is at place 0
+      pub comes-to-damage : given ≡ None → 0 < walk.end → Answers q c (answer_as (Err BadCapture))
+      comes-to-damage g h = meets-damage q c a w.walked (none-ends g) (rw (ne_eqb walk.end 0 (λ z. omega arith)))
 
-        pub comes-to-end : further.end ≡ 0 → n ≡ count c → Answers q c (record { number = none; written = None; records = n })
-        comes-to-end z e = all_read q c a w.walked (none-ends g) (rw (eq-eqb walk.end 0 (sym stays ∙ z)) (eq-eqb n (count c) e))
+  -- at place 0 it has read all records, if they are as many as the trailer says
+  module _ {n : ℕ} {walk : Back} (w : Come n walk) (a : Askable q c) (z : walk.end ≡ 0) where
+    at-0 : record_ends c walk.end ≡ false
+    at-0 = rw z (none-at-0 c)
 
-        pub comes-to-damage : (further.end ≡ 0 → n ≡ count c → ⊥) → Answers q c (answer_as (Err BadCapture))
-        comes-to-damage h = meets-damage q c a w.walked (none-ends g) (by (eqb walk.end 0) (eqb n (count c)) refl refl)
-          where
-            by : (z m : Bool) → eqb walk.end 0 ≡ z → eqb n (count c) ≡ m → (eqb walk.end 0 && eqb n (count c)) ≡ false
-            by false m p o = rw p
-            by true false p o = rw (p, o)
-            by true true p o = absurd (h (stays ∙ eqb-true walk.end 0 p) (eqb-true n (count c) o))
+    pub comes-to-all : n ≡ count c → Answers q c (record { number = none; written = None; records = n })
+    comes-to-all e = all_read q c a w.walked at-0 (rw (eq-eqb walk.end 0 z) (eq-eqb n (count c) e))
+
+    pub comes-to-others : (n ≡ count c → ⊥) → Answers q c (answer_as (Err BadCapture))
+    comes-to-others h = meets-damage q c a w.walked at-0 (rw (eq-eqb walk.end 0 z) (ne_eqb n (count c) h))

@@ -25,15 +25,18 @@ fn walk(capture: &[u8], address: u8, item: u32) -> Result<LastWrite, Refusal>
         capture,
         end: capture::trailer_begins(capture),
     };
-    // No `for` over `&mut back`: what it leaves in `back`, which is looked at behind the loop, is not proved.
-    while let Some(end) = back.next() {
+    // No `for` over `&mut back`: what it leaves in `back`, which is looked at before each step, is not proved.
+    while 0 < back.end {
+        let Some(end) = back.next() else {
+            return Err(Refusal::BadCapture);
+        };
         records += 1;
         let written = playback::wrote(address, capture::frame_before(capture, end), place);
         if written.is_some() {
             return Ok(LastWrite { written, records });
         }
     }
-    if back.end == 0 && records == capture::count(capture) {
+    if records == capture::count(capture) {
         Ok(LastWrite {
             written: None,
             records,

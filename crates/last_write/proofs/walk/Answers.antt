@@ -1,42 +1,40 @@
--- `walk`: past a record that does not write the item it goes on, one that does answers, and where no record ends it has read all or met
--- damage.
-use Rattle.std.proofs.Common.{arith, refl, sym, ◌∙◌}
+-- `walk`: past a record that does not write the item it goes on, one that does answers, where none ends it has met damage, and at place 0
+-- it has read all or miscounts.
+use Rattle.std.proofs.Common.{arith, rules, refl, sym, ◌∙◌}
 use Rattle.capture.specs.Format.{trailer_begins}
 use Rattle.capture.proofs.Walk.{begun}
-use Rattle.last_write.proofs.Walked.{walk-starts, comes-nearer, comes-on, comes-to-write, comes-to-end, comes-to-damage}
+use Rattle.last_write.proofs.Walked.{walk-starts, comes-nearer, comes-on, comes-to-write, comes-to-damage, comes-to-all, comes-to-others}
 use Rattle.last_write.proofs.walk.Goals as goal
-use Rattle.last_write.proofs.walk.Goals.{else-back-eq0-via-then-back-eq0+else-records-count, else-back-eq0-via-else-back-eq0}
 
-pub loop-end-init : goal.loop-end-init
-loop-end-init c = record { same = refl; walked = walk-starts _ _ c.trailer_begins.ensures }
+pub loop-back-init : goal.loop-back-init
+loop-back-init c = record { same = refl; walked = walk-starts _ _ c.trailer_begins.ensures }
 
 pub overflow_add-records : goal.overflow_add-records
 unfolding trailer_begins
 overflow_add-records c =
-    omega (arith, c.loop-end.invariant.walked.few, (begun c.args.capture.now c.requires.trailer).short)
+    omega (arith, c.loop-back.invariant.walked.few, (begun c.args.capture.now c.requires.trailer).short)
 
-pub loop-end-smaller : goal.loop-end-smaller
-loop-end-smaller c = comes-nearer _ _ c.loop-end.invariant c.next.ensures.steps c.in-Some.is
+pub loop-back-smaller : goal.loop-back-smaller
+loop-back-smaller c = comes-nearer _ _ c.loop-back.invariant c.next.ensures.steps c.in-Some.is
 
-pub loop-end-preserved : goal.loop-end-preserved
-loop-end-preserved c =
-    comes-on _ _ c.loop-end.invariant c.next.ensures.steps c.in-Some.is c.frame_before.ensures.bytes c.wrote-written.ensures
-    (sym c.is_some.ensures ∙ c.if-is_some.false)
+pub loop-back-preserved : goal.loop-back-preserved
+loop-back-preserved c =
+    comes-on _ _ c.loop-back.invariant c.next.ensures.steps c.in-Some.is c.frame_before.ensures.bytes c.wrote-written.ensures
+    (search rules)
+
+pub returns-in_default : goal.returns-in_default
+returns-in_default c =
+    comes-to-damage _ _ c.loop-back.invariant c.next.ensures.steps c.requires c.in_default.is (omega arith)
 
 pub returns-then-is_some : goal.returns-then-is_some
 returns-then-is_some c =
-    comes-to-write _ _ c.loop-end.invariant c.next.ensures.steps c.requires c.in-Some.is c.frame_before.ensures.bytes
-    c.wrote-written.ensures (sym c.is_some.ensures ∙ c.if-is_some.true)
+    comes-to-write _ _ c.loop-back.invariant c.next.ensures.steps c.requires c.in-Some.is c.frame_before.ensures.bytes
+    c.wrote-written.ensures (search rules)
 
 pub returns-then-records-count : goal.returns-then-records-count
 returns-then-records-count c =
-    comes-to-end _ _ c.loop-end.invariant c.next.ensures.steps c.requires c.in_default.is c.if-back-eq0.true
-    (c.if-records-count.true ∙ c.count.ensures)
+    comes-to-all _ _ c.loop-back.invariant c.requires (omega arith) (c.if-records-count.true ∙ c.count.ensures)
 
-pub returns-else-back-eq0 : goal.returns-else-back-eq0
-returns-else-back-eq0 c =
-    comes-to-damage _ _ c.loop-end.invariant c.next.ensures.steps c.requires c.in_default.is (λ z e.
-    elim c.else-back-eq0.branch [
-      | else-back-eq0-via-then-back-eq0+else-records-count w ↦ w.if-records-count.false (e ∙ sym w.count.ensures)
-      | else-back-eq0-via-else-back-eq0 w ↦ w.if-back-eq0.false z
-    ])
+pub returns-else-records-count : goal.returns-else-records-count
+returns-else-records-count c =
+    comes-to-others _ _ c.loop-back.invariant c.requires (omega arith) (λ e. c.if-records-count.false (e ∙ sym c.count.ensures))

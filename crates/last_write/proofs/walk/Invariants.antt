@@ -2,8 +2,8 @@
 use Rattle.last_write.proofs.Walked.{Come}
 use Rattle.last_write.proofs.walk.Given as goal
 
-abbrev pub invariant-loop-end : goal.invariant-loop-end
-invariant-loop-end l = Come (record { address = l.address; item = l.item }) l.capture l.records l.back
+abbrev pub invariant-loop-back : goal.invariant-loop-back
+invariant-loop-back l = Come (record { address = l.address; item = l.item }) l.capture l.records l.back
 
-abbrev pub decreases-loop-end : goal.decreases-loop-end
-decreases-loop-end l = l.back.end
+abbrev pub decreases-loop-back : goal.decreases-loop-back
+decreases-loop-back l = l.back.end
