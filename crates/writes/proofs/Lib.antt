@@ -1,4 +1,5 @@
 pub mod Data
+pub mod Given
 pub mod Faults
 pub mod Stored
 pub mod ReadBack

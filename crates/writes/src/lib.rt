@@ -1,10 +1,12 @@
 // What a message writes, by 06H to one register and by 10H to several: either all of its values are stored or none.
 #![tactic(auto)]
 
-ghost use Rattle.std.specs.Prelude.{◌≡◌, true, length};
+ghost use Rattle.std.specs.Prelude.{◌≡◌, ◌+◌, ◌*◌, ◌<◌, true, length, get_or};
 ghost use Rattle.std.specs.Iterator.{YieldsFirstBy, at_most};
 ghost use Rattle.numbers.specs.Promise.{Lent};
 ghost use Rattle.numbers.specs.Refusals.{number_given};
+ghost use Rattle.items.specs.ItemList.{place_of};
+ghost use Rattle.registers.specs.Register.{of_register, word};
 ghost use Rattle.registers.specs.Faults.{right_counts, data_place};
 ghost use Rattle.writes.specs.Writes.{writes, allowed, each, given};
 ghost use Rattle.writes.specs.Requests.{writes_from, write_fault, written_by_one, several_fault, written_by_several};
@@ -138,19 +140,32 @@ pub fn all_allowed(start: u16, bytes: &[u8]) -> bool
     asked.all(|(place, value)| items::writable(place) & items::in_range(place, value))
 }
 
-// What bytes of data for the registers from a start on give an item: the last value of them that is the item's.
+// The value that the bytes have for the register so many behind the start.
+fn value_behind(bytes: &[u8], i: usize) -> i32
+    requires { 2 * i + 1 < length bytes.now }
+    ensures { result ≡ of_register (word (get_or bytes.now (2 * i) 0) (get_or bytes.now (2 * i + 1) 0)) }
+{
+    registers::of_register(registers::word(bytes[2 * i], bytes[2 * i + 1]))
+}
+
+// The place of the item whose register is so many behind the start; past the list where no item has it.
+fn item_behind(start: u16, i: usize) -> usize
+    requires { i < 0x8000000000000000 }
+    ensures { result ≡ place_of (start + i) }
+{
+    let register = (usize::from(start) + i).min(items::MAP_SIZE);
+    items::place_of(register as u16)
+}
+
+// What bytes of data for the registers from a start on give an item. The last of them that is the item's counts, so they are
+// looked at from the back, and a value is worked out for it alone.
 pub fn given_to(start: u16, bytes: &[u8], item: usize) -> Option<i32>
     ensures { result ≡ given (writes start bytes.now) item }
 {
-    let asked = Asked {
-        register: start,
-        bytes,
-    };
-    let mut given = None;
-    for (place, value) in asked {
-        if place == item {
-            given = Some(value);
+    for i in (0..bytes.len() / 2).rev() {
+        if item_behind(start, i) == item {
+            return Some(value_behind(bytes, i));
         }
     }
-    given
+    None
 }

@@ -1,8 +1,8 @@
--- The loop's invariant: what the writes that are left give over what was given so far is what all give.
-use Rattle.std.proofs.Common.{◌≡◌}
-use Rattle.writes.specs.Asked.{left}
-use Rattle.writes.specs.Writes.{writes, given, later}
+-- The loop's invariant: the writes that were looked at give the item nothing.
+use Rattle.std.proofs.Common.{◌≤◌, ◌/◌, length}
+use Rattle.std.specs.Prelude.{None}
+use Rattle.writes.proofs.Given.{GivenFrom}
 use Rattle.writes.proofs.given_to.Given as goal
 
-abbrev pub invariant-loop-place : goal.invariant-loop-place
-invariant-loop-place l = later (given (left l.place-iterator) l.item) l.given ≡ given (writes l.start l.bytes) l.item
+abbrev pub invariant-loop-i : goal.invariant-loop-i
+invariant-loop-i l = record { within : l.i ≤ length l.bytes / 2; given : GivenFrom l.start l.bytes l.item l.i None }
