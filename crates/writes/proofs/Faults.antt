@@ -3,22 +3,24 @@
 use mathlib.Core.Path.{◌≡◌, refl, sym, ap, ◌∙◌}
 use mathlib.Core.Bool.{Bool, true, false, cond, ◌&&◌, and-true}
 use mathlib.Core.List.{List, [], ◌∷◌}
-use Prim.Native.Nat.{ℕ}
+use Prim.Native.Nat.{ℕ, ◌+◌, ◌<◌}
 use native.Mathlib.Omega.{arith}
 use borrow.Author.Tests.{eqb-true}
 use lib.Dec.{eqb}
 use lib.IntN.{ℤ}
-use lib.ListN.{length, drop_of_length-le}
+use lib.ListN.{length, drop, length-drop, drop_of_length-le}
 use lib.Seq.{drop-cons}
 use Rattle.numbers.specs.Numbers.{none, unless}
 use Rattle.numbers.specs.Promise.{Lent}
 use Rattle.numbers.proofs.Order.{either_first, last-met, passed, is-refused, is-done}
-use Rattle.items.specs.ItemList.{place_of}
+use Rattle.numbers.proofs.Refusals.{refusal-met}
+use Rattle.items.specs.ItemList.{map_size, place_of}
 use Rattle.registers.specs.Register.{of_register}
 use Rattle.registers.specs.Faults.{wrong_register, wrong_data, body_length, right_length, first_word, second_word, data_place, right_counts}
-use Rattle.registers.proofs.Faults.{Numbered, none-numbered, register-numbered, data-numbered}
+use Rattle.registers.proofs.Faults.{Numbered, none-numbered, register-numbered, data-numbered, Counted, counted}
 use Rattle.writes.specs.Writes.{Write, writable, inside, allowed, each, request_fault, stored_all, stored_unless}
 use Rattle.writes.specs.Requests.{writes_from, value_place, write_fault, several_fault}
+use Rattle.writes.proofs.ReadBack.{length-writes, span-past-map}
 
 module _ (right : Bool) (ws : List Write) where
   pub form-wrong : right ≡ false → request_fault right ws ≡ wrong_data
@@ -136,3 +138,28 @@ module _ (body : List ℕ) where
   pub several-allowed : several_fault body ≡ none → Allowed (right_counts body) (writes_from data_place body)
   unfolding several_fault
   several-allowed = request-allowed (right_counts body) (writes_from data_place body)
+
+-- where length, quantity and byte count agree, there are as many writes as the quantity says
+pub several-writes : (body : List ℕ) → Counted body → length (writes_from data_place body) ≡ second_word body
+several-writes body c =
+    let bytes = length-drop data_place body in
+    let many = length-writes (first_word body) (drop data_place body) in
+    omega arith
+
+module _ (body : List ℕ) where
+  -- a span that leaves the map meets a fault
+  pub several-past : right_counts body ≡ true → map_size < first_word body + second_word body → several_fault body ≡ wrong_register
+  unfolding several_fault
+  several-past form past =
+      let k = counted body form in
+      let many = several-writes body k in
+      register-wrong _ _ form (span-past-map (first_word body) (drop data_place body) (omega arith) (omega arith))
+
+  -- so a request that meets none has right counts, and its span in the map
+  pub several-counts : several_fault body ≡ none → right_counts body ≡ true
+  several-counts e = (several-allowed body e).form
+
+-- what judging goes by, and what storing does
+pub ruleset to_judge = (several-past)
+
+pub ruleset to_store = (none-stored, all-stored, several-counts, several-past, refusal-met)

@@ -1,13 +1,13 @@
 // What a message writes, by 06H to one register and by 10H to several: either all of its values are stored or none.
 #![tactic(auto)]
 
-ghost use Rattle.std.specs.Prelude.{◌≡◌, ◌+◌, ◌*◌, ◌<◌, true, length, get_or};
+ghost use Rattle.std.specs.Prelude.{◌≡◌, ◌+◌, ◌*◌, ◌<◌, ◌≤◌, true, length, get_or};
 ghost use Rattle.std.specs.Iterator.{YieldsFirstBy, at_most};
 ghost use Rattle.numbers.specs.Promise.{Lent};
 ghost use Rattle.numbers.specs.Refusals.{number_given};
-ghost use Rattle.items.specs.ItemList.{place_of};
+ghost use Rattle.items.specs.ItemList.{map_size, place_of};
 ghost use Rattle.registers.specs.Register.{of_register, word};
-ghost use Rattle.registers.specs.Faults.{right_counts, data_place};
+ghost use Rattle.registers.specs.Faults.{first_word, second_word, right_counts, data_place};
 ghost use Rattle.writes.specs.Writes.{writes, allowed, each, given};
 ghost use Rattle.writes.specs.Requests.{writes_from, write_fault, written_by_one, several_fault, written_by_several};
 ghost use Rattle.writes.specs.Asked.{write, left};
@@ -82,9 +82,10 @@ impl<'a> Iterator for Asked<'a> {
 
 // ---- 10H: a register to start from, a quantity, a byte count, and the values of the registers
 
-// The writes of a body.
+// The writes of a body of the right form, whose span lies in the map.
 fn several_asked(body: &[u8]) -> Asked<'_>
-    requires { right_counts body.now ≡ true }
+    requires counts { right_counts body.now ≡ true }
+    requires span { first_word body.now + second_word body.now ≤ map_size }
     ensures { left result ≡ writes_from data_place body.now }
 {
     Asked {
@@ -93,12 +94,19 @@ fn several_asked(body: &[u8]) -> Asked<'_>
     }
 }
 
-// The fault of a request to write several registers. A value out of range is told of only where every register is a writable item's.
+// The fault of a request to write several registers. A span that leaves the map has a register that is no item's, and none of it is
+// looked at; the sum is made in 64 bits, where it does not wrap. A value out of range is told of only where every register is a
+// writable item's.
+#[tactic(auto, using(crate::proofs::Faults::to_judge))]
 fn several_fault(body: &[u8]) -> Result<(), Refusal>
     ensures { number_given result ≡ several_fault body.now }
 {
     if !registers::right_counts(body) {
         return Err(Refusal::WrongData);
+    }
+    let end = usize::from(registers::first_word(body)) + usize::from(registers::second_word(body));
+    if items::MAP_SIZE < end {
+        return Err(Refusal::WrongRegister);
     }
     let mut inside = true;
     for (place, value) in several_asked(body) {
@@ -115,12 +123,14 @@ fn several_fault(body: &[u8]) -> Result<(), Refusal>
 }
 
 // Several registers are written, or the write refused for their fault. No value is stored before all are judged.
+#[tactic(auto, using(crate::proofs::Faults::to_store))]
 pub fn write_several(table: &mut [i32], body: &[u8]) -> Result<(), Refusal>
     ensures { Lent (several_fault body.now)
         (written_by_several table.old body.now) (number_given result) table.new }
 {
     several_fault(body)?;
-    for (place, value) in several_asked(body) {
+    let asked = several_asked(body);
+    for (place, value) in asked {
         table::store(table, place, value);
     }
     Ok(())
