@@ -9,6 +9,7 @@ use lib.IntN.{ℤ}
 use native.Mathlib.Omega.{arith}
 use lib.ListN.{length, take, drop, take-append-drop}
 use lib.Seq.{sets, length-take-le}
+use Rattle.std.proofs.lemmas.Bool.Decides.{nat_tests}
 use Rattle.numbers.specs.declared.Refusal.{Refusal}
 use Rattle.numbers.specs.Numbers.{none, unless_met, short_buffer, least_buffer}
 use Rattle.numbers.specs.Refusals.{number_of}
@@ -17,7 +18,7 @@ use Rattle.numbers.proofs.Order.{is-refused, is-done}
 use Rattle.registers.proofs.Faults.{Numbered, numbered_of}
 use Rattle.modbus.specs.declared.Answered.{Answered}
 use Rattle.modbus.specs.Outcome.{Outcome, other_address, unknown_function, silent, exception}
-use Rattle.modbus.specs.Outcome.{function_of}
+use Rattle.modbus.specs.Outcome.{head_length, function_of}
 use Rattle.modbus.specs.Rules.{read_registers, write_register, loopback, write_several, ours}
 use Rattle.modbus.specs.Rules.{reading, writing, looping_back, writing_several, obeying, acted, acted_within}
 use Rattle.modbus.specs.Promise.{Gives, Puts, Refuses}
@@ -94,6 +95,10 @@ module _ (t : List ℤ) (address : ℕ) (body : List ℕ) where
   pub without-room : (room : ℕ) → room < least_buffer → acted_within t room address body ≡ silent t short_buffer
   unfolding acted_within
   without-room room h = rw (lt-leb least_buffer room h)
+
+-- a message that is ours has an address and a function
+pub ours-head : (address : ℕ) (body : List ℕ) → ours address body ≡ true → head_length ≤ length body
+ours-head address body e = grind (arith, nat_tests)
 
 -- silence leaves the buffer and the table
 pub gives-silence : (t : List ℤ) (number : ℕ) (buffer : List ℕ) (r : Answered) → r ≡ record { number = number; len = 0 }

@@ -6,8 +6,10 @@ use Prim.Native.Nat.{ℕ, zero, suc, ◌+◌, ◌-◌, ◌*◌, ◌/◌, ◌%◌
 use native.Mathlib.Nat.{not-suc-le-zero}
 use native.Mathlib.Numerals.{add-one}
 use native.Mathlib.Omega.{arith}
+use Rattle.std.proofs.lemmas.Grind.{common_steps}
+use Rattle.std.proofs.lemmas.List.Edits.{sets-eq}
 use lib.IntN.{ℤ}
-use lib.ListN.{length, set, length-set}
+use lib.ListN.{length, drop, set, length-set}
 use lib.Seq.{sets, set-append_left}
 use Rattle.registers.specs.Register.{register_at, registers_from}
 
@@ -44,3 +46,11 @@ sets-front xs ys i [] h = refl
 sets-front xs ys i (v ∷ vs) h =
     ap (λ (l : List ℕ). sets l (suc i) vs) (set-append_left xs ys i v (omega arith))
     ∙ sets-front (set xs i v) ys (suc i) vs (simp length-set (omega arith))
+
+-- a list that is stored at the front of another stands there, and the rest stays
+pub stored-front : (bytes buffer : List ℕ) → length bytes ≤ length buffer → sets buffer 0 bytes ≡ bytes ++ drop (length bytes) buffer
+stored-front bytes buffer h =
+    let front : 0 + length bytes ≡ length bytes = omega arith in
+    rw front at (sets-eq bytes buffer 0 (omega arith))
+
+pub ruleset in_front = (stored-front, common_steps)

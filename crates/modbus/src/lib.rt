@@ -60,6 +60,7 @@ fn exception(reply: &mut Reply, body: &[u8], refusal: Refusal) -> Answered
 }
 
 // The request again, or its front.
+#[tactic(auto, using(crate::proofs::Stores::in_front))]
 fn echo(reply: &mut Reply, body: &[u8]) -> usize
     requires { length body.now ≤ length reply.old }
     ensures { Puts body.now result reply.old reply.new }
