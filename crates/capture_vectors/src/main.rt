@@ -2,7 +2,7 @@
 // what comes of it.
 #![tactic(auto)]
 
-use instrument::{F1, Instrument, PB};
+use instrument::{F1, PB};
 use std::rt::Stdout;
 
 // Document 000's write of 0102H to the offset, one of FF6AH, and document 004's write of a register that the map does not have.
@@ -29,7 +29,8 @@ fn playback(out: &Stdout, address: u8, capture: &[u8]) {
     show::text(out, b"playback");
     show::byte(out, address);
     handed(out, capture);
-    let mut table = Instrument::start().table;
+    // A table of zeros is lent, so that the line shows where playback begins.
+    let mut table = [0i32; items::ITEMS];
     match playback::play(&mut table, address, capture) {
         Ok(()) => {
             show::text(out, b" 0:");
