@@ -1,8 +1,8 @@
 // The link state as firmware holds it, in 24 bytes: taken out of them, and put back.
 #![tactic(auto)]
 
-ghost use Rattle.std.specs.Prelude.{◌≡◌};
-ghost use Rattle.state.specs.State.{fields, unpacked, packed, packed_into};
+ghost use Rattle.std.specs.Prelude.{◌≡◌, length};
+ghost use Rattle.state.specs.State.{state_bytes, fields, unpacked, packed, packed_into};
 
 use block::MOST_KEPT;
 use rkc::Link;
@@ -43,19 +43,22 @@ pub fn unpack(state: &[u8]) -> Link
     }
 }
 
-// The bytes of a state, each field in its place and the others 0.
-fn packed(link: Link) -> [u8; STATE_BYTES]
-    ensures { result ≡ packed link }
+// The bytes take this state: each field its place, and the others 0.
+fn lay_out(state: &mut [u8], link: Link)
+    requires { length state.old ≡ state_bytes }
+    ensures { state.new ≡ packed link }
 {
-    let mut bytes = [0; STATE_BYTES];
-    bytes[0] = link.phase;
-    bytes[1] = link.item;
-    bytes[2] = link.count;
-    bytes[3] = link.bcc;
-    bytes[4] = u8::from(link.mark);
-    bytes[8..12].copy_from_slice(&link.time.to_le_bytes());
-    bytes[12..20].copy_from_slice(&link.kept);
-    bytes
+    state[0] = link.phase;
+    state[1] = link.item;
+    state[2] = link.count;
+    state[3] = link.bcc;
+    state[4] = u8::from(link.mark);
+    state[5] = 0;
+    state[6] = 0;
+    state[7] = 0;
+    state[8..12].copy_from_slice(&link.time.to_le_bytes());
+    state[12..20].copy_from_slice(&link.kept);
+    state[20..24].copy_from_slice(&[0; 4]);
 }
 
 // The bytes hold this state; those of another length stay.
@@ -63,6 +66,6 @@ pub fn pack(state: &mut [u8], link: Link)
     ensures { state.new ≡ packed_into state.old link }
 {
     if state.len() == STATE_BYTES {
-        state.copy_from_slice(&packed(link));
+        lay_out(state, link);
     }
 }
