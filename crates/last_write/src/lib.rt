@@ -25,7 +25,7 @@ fn walk(capture: &[u8], address: u8, item: u32) -> Result<LastWrite, Refusal>
         capture,
         end: capture::trailer_begins(capture),
     };
-    // No `for` over `&mut back`: what it leaves in `back`, which is looked at before each step, is not proved.
+    // No `for` over `&mut back`: before each step it is looked at whether `back` is at place 0, and what a `for` leaves in it is not proved.
     while 0 < back.end {
         let Some(end) = back.next() else {
             return Err(Refusal::BadCapture);
